@@ -97,38 +97,38 @@ module _ (how : Listing) where
   pub begins : (pairs rest : List Listed) (known : Option (List ℕ)) → rest ≡ pairs → Front how pairs rest known known 0
   begins pairs rest known same = record { front = []; whole = same; status = refl; text = Appends-nil known }
 
-  module _ (pairs here rest : List Listed) (old mid new : Option (List ℕ)) (status : ℕ) (far : Front how pairs (here ++ rest) old mid status)
-    where
-      pub goes_on : (more : ℕ) → WritesPairs how here mid new (Ok more) → Front how pairs rest old new (worse status more)
-      goes_on more written = record {
-        front = far.front ++ here;
-        whole = append_assoc far.front here rest ∙ far.whole;
-        status = status_of_both far.front here ∙ ap (λ n. worse n (pairs_status here)) far.status ∙ ap (worse status) written.0;
-        text = subst (Appends old new) (sym (text_of_both far.front here)) (Appends-trans old mid new _ _ far.text written.1);
-      }
+  module _ (pairs here rest : List Listed) (old mid new : Option (List ℕ)) (status : ℕ)
+      (far : Front how pairs (here ++ rest) old mid status) where
+    pub goes_on : (more : ℕ) → WritesPairs how here mid new (Ok more) → Front how pairs rest old new (worse status more)
+    goes_on more written = record {
+      front = far.front ++ here;
+      whole = append_assoc far.front here rest ∙ far.whole;
+      status = status_of_both far.front here ∙ ap (λ n. worse n (pairs_status here)) far.status ∙ ap (worse status) written.0;
+      text = subst (Appends old new) (sym (text_of_both far.front here)) (Appends-trans old mid new _ _ far.text written.1);
+    }
 
-      all_text : pairs_by how pairs ≡ pairs_by how far.front ++ (pairs_by how here ++ pairs_by how rest)
-      all_text =
-          ap (pairs_by how) (sym far.whole) ∙ text_of_both far.front (here ++ rest)
-          ∙ ap (λ text. pairs_by how far.front ++ text) (text_of_both here rest)
+    all_text : pairs_by how pairs ≡ pairs_by how far.front ++ (pairs_by how here ++ pairs_by how rest)
+    all_text =
+        ap (pairs_by how) (sym far.whole) ∙ text_of_both far.front (here ++ rest)
+        ∙ ap (λ text. pairs_by how far.front ++ text) (text_of_both here rest)
 
-      part_of : AppendsPart mid new (pairs_by how here) → AppendsPart mid new (pairs_by how here ++ pairs_by how rest)
-      part_of part = (
-        part.0,
-        omega (arith, part.1, length-append (pairs_by how here) (pairs_by how rest)),
-        subst (Appends mid new) (sym (take-append-le part.0 (pairs_by how here) (pairs_by how rest) (omega (arith, part.1)))) part.2,
-      )
+    part_of : AppendsPart mid new (pairs_by how here) → AppendsPart mid new (pairs_by how here ++ pairs_by how rest)
+    part_of part = (
+      part.0,
+      omega (arith, part.1, length-append (pairs_by how here) (pairs_by how rest)),
+      subst (Appends mid new) (sym (take-append-le part.0 (pairs_by how here) (pairs_by how rest) (omega (arith, part.1)))) part.2,
+    )
 
-      pub stops : (fault : CliFault) → WritesPairs how here mid new (Err fault) → WritesPairs how pairs old new (Err fault)
-      stops Write part = subst (AppendsPart old new) (sym all_text) (part_behind old mid new _ _ far.text (part_of part))
-      stops NoMemory left = (
-        far.front ++ left.0,
-        left.1 ++ rest,
-        append_assoc far.front left.0 (left.1 ++ rest)
-            ∙ ap (λ l. far.front ++ l) (sym (append_assoc left.0 left.1 rest) ∙ ap (λ l. l ++ rest) left.2) ∙ far.whole,
-        subst (Appends old new) (sym (text_of_both far.front left.0)) (Appends-trans old mid new _ _ far.text left.3),
-      )
-      stops fault never = absurd never
+    pub stops : (fault : CliFault) → WritesPairs how here mid new (Err fault) → WritesPairs how pairs old new (Err fault)
+    stops Write part = subst (AppendsPart old new) (sym all_text) (part_behind old mid new _ _ far.text (part_of part))
+    stops NoMemory left = (
+      far.front ++ left.0,
+      left.1 ++ rest,
+      append_assoc far.front left.0 (left.1 ++ rest)
+          ∙ ap (λ l. far.front ++ l) (sym (append_assoc left.0 left.1 rest) ∙ ap (λ l. l ++ rest) left.2) ∙ far.whole,
+      subst (Appends old new) (sym (text_of_both far.front left.0)) (Appends-trans old mid new _ _ far.text left.3),
+    )
+    stops fault never = absurd never
 
   pub ends : (pairs rest : List Listed) (old new : Option (List ℕ)) (status : ℕ) → rest ≡ [] → Front how pairs rest old new status
       → WritesPairs how pairs old new (Ok status)
@@ -142,7 +142,8 @@ module _ (how : Listing) where
   pub here_next : (st : State) (user : Identity) (subtrees : List Names) (i : ℕ) (subtree : Names) (pairs : List Listed)
       (old new : Option (List ℕ)) (worst : ℕ) → i < length subtrees → subtree ≡ get_or subtrees i subtree
       → Front how pairs (listed_of st (drop i subtrees) user) old new worst
-      → Front how pairs (listed_unless_contained user subtree (answer st user subtree) ++ listed_of st (drop (i + 1) subtrees) user) old new worst
+      → Front how pairs (listed_unless_contained user subtree (answer st user subtree) ++ listed_of st (drop (i + 1) subtrees) user)
+      old new worst
   here_next st user subtrees i subtree pairs old new worst within at =
       subst (λ rest. Front how pairs (listed_of st rest user) old new worst)
       (drop-cons subtrees i subtree within ∙ (λ j. sym at j ∷ drop (sym (add-one i) j) subtrees))
@@ -356,7 +357,8 @@ module _ (how : Listing) where
 
     module _ (users : List Identity) (subtrees : List Names) (st : State) (kept : IsKeptOnce read users subtrees st) where
       listing_reports : (old new : Option (List ℕ)) (result : Result ℕ CliFault)
-          → ReportsPairsBy how (pairs_found st users subtrees) old new result → ReportsPairsBy how (all_report tree given texts) old new result
+          → ReportsPairsBy how (pairs_found st users subtrees) old new result
+          → ReportsPairsBy how (all_report tree given texts) old new result
       listing_reports old new result =
           subst (λ report. ReportsPairsBy how report old new result)
           (sym (by_all ∙ ap (λ found. read_then found next) kept.is ∙ sym (λ i. pairs_found st (kept.of_users i) (kept.of_subtrees i))))
@@ -375,7 +377,8 @@ module _ (how : Listing) where
           (subst (λ l. UnlistedAreContained st l (once same_path kept.all_subtrees)) kept.of_users
           (subst (λ l. UnlistedAreContained st users l) kept.of_subtrees said))
 
-    pub all_said : (old new : Option (List ℕ)) (result : Result ℕ CliFault) → NamedReports (ListsUncontained how) tree given texts old new result
+    pub all_said : (old new : Option (List ℕ)) (result : Result ℕ CliFault)
+        → NamedReports (ListsUncontained how) tree given texts old new result
         → ReportsPairsBy how (all_report tree given texts) old new result
     all_said =
         by_reading (ListsUncontained how) tree given texts (ReportsPairsBy how (all_report tree given texts)) fault_reports

@@ -26,17 +26,17 @@ use Rattle.cg_format.specs.Readings.{Reading}
 use Rattle.cg_faults.specs.Faults.{lifted_check}
 use Rattle.cg_faults.specs.declared.fault.CliFault.{CliFault}
 use Rattle.cg_faults.specs.declared.fault.CliFault.TheVariants.{NoMemory}
-use Rattle.cg_cli.specs.Advising.{all_pairs, paired, named_report}
+use Rattle.cg_cli.specs.Advising.{lines_report, all_pairs, paired, advice_report, named_report, advise_report, advise_pairs_report}
 use Rattle.cg_cli.specs.Arguments.{user_read, pid_read, path_read}
-use Rattle.cg_cli.specs.AsJson.{answer_json_report, subtree_json_report, FurtherSaysAsJson, audit_json_answer, pairs_json_report, parts_status, parts_report, parts_asked, advice_json_report, settled_parts, settled_asked, settled_json_report, AdvisesNamedAsJson, advise_pairs_json_report, may_json_report, check_json_report, audit_json_report}
+use Rattle.cg_cli.specs.AsJson.{answer_json_report, subtree_json_report, FurtherSaysAsJson, audit_json_answer, pairs_json_report, parts_status, parts_report, parts_asked, advice_json_report, settled_parts, settled_asked, settled_json_report, AdvisesNamedAsJson, advise_json_report, advise_pairs_json_report, advise_settled_json_report, move_json_report, may_json_report, check_json_report, audit_json_report}
 use Rattle.cg_cli.specs.Asking.{named_read, PairsReport, NamedReports}
 use Rattle.cg_cli.specs.Audits.{users_read, paths_read, audit_answer_report, pairs_report, audit_report}
 use Rattle.cg_cli.specs.Containment.{in_call, answer_report, subtree_report, check_report}
-use Rattle.cg_cli.specs.May.{tree_read}
+use Rattle.cg_cli.specs.May.{move_report, tree_read, may_report}
 use Rattle.cg_cli.specs.Once.{same_user}
 use Rattle.cg_cli.specs.Pairs.{pair_given}
 use Rattle.cg_cli.specs.Reports.{Report, Reports, fault_report, report_on, takes_memory}
-use Rattle.cg_cli.specs.SettledAdvice.{are_held}
+use Rattle.cg_cli.specs.SettledAdvice.{are_held, settled_report, advise_settled_report}
 use Rattle.cg_cli.specs.Settled.{IsSettledFrom, IsSettled, IsSettledFault}
 use Rattle.cg_cli.specs.Settling.{SaysOn}
 use Rattle.cg_cli.specs.declared.pairs.PairIds.{PairIds}
@@ -242,3 +242,81 @@ audit_ending tree given texts =
         (audit_json_answer (once same_user users) (once same_path paths))
         (audit_answer_report (once same_user users) (once same_path paths)) (λ found. refl)
         ∙ ap (λ (report : Report). report.ending) (said_once st users paths)
+
+pub may_ending : (tree : Reading) (uid : ℕ) (gids : List ℕ) (pid : ℕ) (to : List ℕ)
+    → (may_json_report tree uid gids pid to).ending ≡ (may_report tree uid gids pid to).ending
+may_ending tree uid gids pid to =
+    same_ending (user_read uid gids)
+    (λ user. report_on (pid_read pid) (λ number. report_on (path_read to) (λ path. report_on (tree_read tree) (λ st.
+    move_json_report st user number path))))
+    (λ user. report_on (pid_read pid) (λ number. report_on (path_read to) (λ path. report_on (tree_read tree) (λ st.
+    move_report st user number path)))) (λ user.
+    same_ending (pid_read pid)
+    (λ number. report_on (path_read to) (λ path. report_on (tree_read tree) (λ st. move_json_report st user number path)))
+    (λ number. report_on (path_read to) (λ path. report_on (tree_read tree) (λ st. move_report st user number path))) (λ number.
+    same_ending (path_read to) (λ path. report_on (tree_read tree) (λ st. move_json_report st user number path))
+    (λ path. report_on (tree_read tree) (λ st. move_report st user number path)) (λ path.
+    same_ending (tree_read tree) (λ st. move_json_report st user number path) (λ st. move_report st user number path) (λ st. refl))))
+
+-- of users and subtrees that are read in turn
+named_ending : (one other : State → List Identity → List Names → Report)
+    → ((st : State) (users : List Identity) (subtrees : List Names) → (one st users subtrees).ending ≡ (other st users subtrees).ending)
+    → (tree : Reading) (given : List (ℕ × List ℕ)) (texts : List (List ℕ))
+    → (named_report one tree given texts).ending ≡ (named_report other tree given texts).ending
+named_ending one other same tree given texts =
+    same_ending (users_read given)
+    (λ users. report_on (paths_read texts) (λ paths. report_on (tree_read tree) (λ st. one st users paths)))
+    (λ users. report_on (paths_read texts) (λ paths. report_on (tree_read tree) (λ st. other st users paths))) (λ users.
+    same_ending (paths_read texts) (λ paths. report_on (tree_read tree) (λ st. one st users paths))
+    (λ paths. report_on (tree_read tree) (λ st. other st users paths)) (λ paths.
+    same_ending (tree_read tree) (λ st. one st users paths) (λ st. other st users paths) (λ st. same st users paths)))
+
+parts_ending : (guarded : Bool) (parts : List Let × List Raised) (lines : List ℕ)
+    → (parts_report (cond guarded None (Some parts))).ending ≡ (lines_report (cond guarded None (Some lines))).ending
+parts_ending true parts lines = refl
+parts_ending false parts lines = refl
+
+advice_ending : (st : State) (subtrees : List Names) (pairs : List Pair)
+    → (advice_json_report st subtrees pairs).ending ≡ (advice_report st subtrees pairs).ending
+advice_ending st subtrees pairs = by_fault (first (flat_map (subtree_faults st) subtrees))
+  where
+    by_fault : (fault : Option CheckFault)
+        → (report_on (in_call (unless_fault fault (advice_parts st pairs))) parts_report).ending
+        ≡ (report_on (in_call (unless_fault fault (advice_lines st pairs))) lines_report).ending
+    by_fault None = parts_ending (list_all (is_pair_guarded st) pairs) (parts_of st pairs) (pairs_lines st pairs)
+    by_fault (Some fault) = refl
+
+pub advise_ending : (tree : Reading) (given : List (ℕ × List ℕ)) (texts : List (List ℕ))
+    → (advise_json_report tree given texts).ending ≡ (advise_report tree given texts).ending
+advise_ending tree given texts =
+    named_ending
+    (λ st users subtrees. advice_json_report st (once same_path subtrees) (all_pairs (once same_user users) (once same_path subtrees)))
+    (λ st users subtrees. advice_report st (once same_path subtrees) (all_pairs (once same_user users) (once same_path subtrees)))
+    (λ st users subtrees. advice_ending st (once same_path subtrees) (all_pairs (once same_user users) (once same_path subtrees)))
+    tree given texts
+
+pub advise_pairs_ending : (tree : Reading) (given : List ((ℕ × List ℕ) × List ℕ))
+    → (advise_pairs_json_report tree given).ending ≡ (advise_pairs_report tree given).ending
+advise_pairs_ending tree given =
+    named_ending paired_json_report (λ st users subtrees. advice_report st subtrees (paired users subtrees))
+    (λ st users subtrees. advice_ending st subtrees (paired users subtrees)) tree (map (λ pair. pair.0) given) (map (λ pair. pair.1) given)
+
+settled_ending : (st : State) (users : List Identity) (subtrees : List Names)
+    → (settled_json_report st users subtrees).ending ≡ (settled_report st users subtrees).ending
+settled_ending st users subtrees = by_fault (first (flat_map (subtree_faults st) subtrees)) (are_held st users subtrees)
+  where
+    by_fault : (fault : Option CheckFault) (held : Bool)
+        → (report_on (in_call (unless_fault fault (cond held None (advice_parts st (all_pairs users subtrees))))) parts_report).ending
+        ≡ (report_on (in_call (unless_fault fault (cond held None (advice_lines st (all_pairs users subtrees))))) lines_report).ending
+    by_fault None true = refl
+    by_fault None false =
+        let pairs = all_pairs users subtrees in
+        parts_ending (list_all (is_pair_guarded st) pairs) (parts_of st pairs) (pairs_lines st pairs)
+    by_fault (Some fault) held = refl
+
+pub advise_settled_ending : (tree : Reading) (given : List (ℕ × List ℕ)) (texts : List (List ℕ))
+    → (advise_settled_json_report tree given texts).ending ≡ (advise_settled_report tree given texts).ending
+advise_settled_ending tree given texts =
+    named_ending (λ st users subtrees. settled_json_report st (once same_user users) (once same_path subtrees))
+    (λ st users subtrees. settled_report st (once same_user users) (once same_path subtrees))
+    (λ st users subtrees. settled_ending st (once same_user users) (once same_path subtrees)) tree given texts

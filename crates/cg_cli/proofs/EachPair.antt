@@ -1,6 +1,6 @@
 -- Pairs that are named one by one: those that aren't contained, and why each is.
-use Rattle.std.proofs.Common.{◌≡◌, ◌≢◌, ℕ, ◌+◌, ◌<◌, ◌≤◌, Bool, true, List, [], ◌∷◌, ◌++◌, map, length, get_or, drop, drop-cons, add-one, Option, None, Result, Ok, Err, IfOk, refl, sym, ap, subst, ◌∙◌, arith}
-use Rattle.std.specs.List.{AllByRecursion, flat_map}
+use Rattle.std.proofs.Common.{◌≡◌, ◌≢◌, ℕ, ◌+◌, ◌<◌, ◌≤◌, true, List, [], ◌∷◌, ◌++◌, map, length, get_or, drop, drop-cons, add-one, Option, None, Result, Ok, Err, IfOk, refl, sym, ap, subst, ◌∙◌, arith}
+use Rattle.std.specs.List.{flat_map}
 use Rattle.std.proofs.lemmas.List.{drop_all}
 use Rattle.std.proofs.lemmas.List.Elements.{All-from_recursion}
 use Rattle.cg_cgroup.specs.Paths.{Names}
@@ -22,14 +22,13 @@ use Rattle.cg_cli.specs.Advising.{paired, named_with}
 use Rattle.cg_cli.specs.AllPairs.{Listing, read_then, ReportsPairsBy}
 use Rattle.cg_cli.specs.Asking.{CallEnding, read_in_turn, named_read, read_takes_memory, IsMet, PairsReport}
 use Rattle.cg_cli.specs.Audits.{users_read, paths_read}
-use Rattle.cg_cli.specs.Containment.{in_call}
 use Rattle.cg_cli.specs.EachPair.{pair_listed, pairs_listed, lists_then, pairs_then, audited_unless_fault, UnlistedAsNamed, ListsNamed}
 use Rattle.cg_cli.specs.Explaining.{Writing, asked_unless_fault, ReportsToldBy}
 use Rattle.cg_cli.specs.May.{tree_read}
 use Rattle.cg_cli.specs.Pairs.{pair_given}
 use Rattle.cg_cli.specs.declared.pairs.PairIds.{PairIds}
 use Rattle.cg_faults.specs.declared.fault.CliFault.{CliFault}
-use Rattle.cg_cli.proofs.AllPairs.{Front, ends, met_pairs}
+use Rattle.cg_cli.proofs.AllPairs.{Front, met_pairs}
 use Rattle.cg_cli.proofs.Explaining.{met_asked}
 use Rattle.cg_cli.proofs.NamedPairs.{mapped_again, paired_subtrees, some_paired}
 use Rattle.cg_cli.proofs.NamedReads.{regrouped, by_read}
@@ -146,8 +145,8 @@ pub unlisted_said : (how : Listing) (bytes : List ℕ) (given : List (ℕ × Lis
     (λ status. (start : State) (who : List Identity) (paths : List Names) → IsTextOf start bytes → users_read given ≡ Ok who
     → paths_read texts ≡ Ok paths → UnlistedAsNamed start (paired who paths))
 unlisted_said how bytes given texts old new result asked =
-    by_read (named_read given texts asked.0) (λ users subtrees st. named_read given texts asked.0 ≡ Ok (users, subtrees, st)) (ListsNamed how)
-    (λ old new result. IfOk result
+    by_read (named_read given texts asked.0) (λ users subtrees st. named_read given texts asked.0 ≡ Ok (users, subtrees, st))
+    (ListsNamed how) (λ old new result. IfOk result
     (λ status. (start : State) (who : List Identity) (paths : List Names) → IsTextOf start bytes → users_read given ≡ Ok who
     → paths_read texts ≡ Ok paths → UnlistedAsNamed start (paired who paths)))
     (λ fault met known. tt)

@@ -88,8 +88,8 @@ none_reported Lines text is = λ i. record { text = sym is i; ending = Ok 0 }
 none_reported Json text is = λ i. record { text = sym is i; ending = Ok 0 }
 
 -- nothing is listed of anybody
-pub none_said : (said : List Listed → Report) (users : List Identity) (subtrees : List Names) (rows : List (List Found)) (i : ℕ) → length users ≤ i
-    → rows_pairs (drop i users) subtrees (drop i rows) ≡ rows_pairs users subtrees rows
+pub none_said : (said : List Listed → Report) (users : List Identity) (subtrees : List Names) (rows : List (List Found)) (i : ℕ)
+    → length users ≤ i → rows_pairs (drop i users) subtrees (drop i rows) ≡ rows_pairs users subtrees rows
     → said (rows_pairs users subtrees rows) ≡ said []
 none_said said users subtrees rows i all far =
     ap said (sym far ∙ (λ j. rows_pairs (drop_all i users all j) subtrees (drop i rows)))

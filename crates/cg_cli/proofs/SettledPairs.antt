@@ -207,8 +207,9 @@ line_shown subtrees found subtree line at =
 
 -- the pair of this is the next
 pub row_next : {how : Listing} (user : Identity) (subtrees : List Names) (row : List Found) (i : ℕ) (found : Found) (subtree : Names)
-    (pairs : List Listed) (old new : Option (List ℕ)) (worst : ℕ) → i < length row → found ≡ get_or row i found → found.place < length subtrees
-    → subtree ≡ get_or subtrees found.place subtree → Front how pairs (row_pairs user subtrees (drop i row)) old new worst
+    (pairs : List Listed) (old new : Option (List ℕ)) (worst : ℕ) → i < length row → found ≡ get_or row i found
+    → found.place < length subtrees → subtree ≡ get_or subtrees found.place subtree
+    → Front how pairs (row_pairs user subtrees (drop i row)) old new worst
     → Front how pairs (listed_unless_contained user subtree found.answer ++ row_pairs user subtrees (drop (i + 1) row)) old new worst
 row_next {how} user subtrees row i found subtree pairs old new worst within at inside path far =
     let same : subtree ≡ get_or subtrees found.place [] = path ∙ get_or_default subtrees found.place subtree [] inside in
@@ -218,9 +219,10 @@ row_next {how} user subtrees row i found subtree pairs old new worst within at i
     (drop-cons row i found within ∙ (λ j. sym at j ∷ drop (sym (add-one i) j) row)) far)
 
 -- the pairs of this user are the next
-pub rows_next : {how : Listing} (users : List Identity) (subtrees : List Names) (rows : List (List Found)) (i : ℕ) (user : Identity) (row : List Found)
-    (pairs : List Listed) (old new : Option (List ℕ)) (worst : ℕ) → i < length users → length rows ≡ length users
-    → user ≡ get_or users i user → row ≡ get_or rows i row → Front how pairs (rows_pairs (drop i users) subtrees (drop i rows)) old new worst
+pub rows_next : {how : Listing} (users : List Identity) (subtrees : List Names) (rows : List (List Found)) (i : ℕ) (user : Identity)
+    (row : List Found) (pairs : List Listed) (old new : Option (List ℕ)) (worst : ℕ) → i < length users → length rows ≡ length users
+    → user ≡ get_or users i user → row ≡ get_or rows i row
+    → Front how pairs (rows_pairs (drop i users) subtrees (drop i rows)) old new worst
     → Front how pairs (row_pairs user subtrees row ++ rows_pairs (drop (i + 1) users) subtrees (drop (i + 1) rows)) old new worst
 rows_next {how} users subtrees rows i user row pairs old new worst within all at row_at far =
     let of_users : drop i users ≡ user ∷ drop (i + 1) users =
@@ -415,7 +417,8 @@ module _ (how : Listing) (tree : Reading) (given : List (ℕ × List ℕ)) (text
       (subst (λ l. TellsUnsettled how st users l old new) kept.of_subtrees said))
 
 pub unlisted_settled : (how : Listing) (bytes : List ℕ) (given : List (ℕ × List ℕ)) (texts : List (List ℕ))
-    (old new : Option (List ℕ)) (result : Result ℕ CliFault) → OnText bytes (λ read. NamedReports (ListsUnsettled how) read given texts old new result)
+    (old new : Option (List ℕ)) (result : Result ℕ CliFault)
+    → OnText bytes (λ read. NamedReports (ListsUnsettled how) read given texts old new result)
     → IfOk result
     (λ status. (start : State) (who : List Identity) (paths : List Names) → IsTextOf start bytes → users_read given ≡ Ok who
     → paths_read texts ≡ Ok paths → TellsUnsettled how start (once same_user who) (once same_path paths) old new)
@@ -426,6 +429,6 @@ unlisted_settled how bytes given texts old new result asked =
     → paths_read texts ≡ Ok paths → TellsUnsettled how start (once same_user who) (once same_path paths) old new))
     (λ fault met known. tt)
     (λ users subtrees st kept old new result said.
-    unsettled_said how asked.0 given texts users subtrees st kept bytes (λ start of_text. one_reading bytes asked.0 (Ok start) asked.1 of_text)
-    result old new said.1)
+    unsettled_said how asked.0 given texts users subtrees st kept bytes
+    (λ start of_text. one_reading bytes asked.0 (Ok start) asked.1 of_text) result old new said.1)
     old new result asked.2

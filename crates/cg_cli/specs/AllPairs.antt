@@ -54,7 +54,8 @@ listing_by how (pair ∷ pairs) = pairs_by how (pair ∷ pairs)
 
 -- A front of the pairs is written, each of them whole.
 abbrev pub LeavesWhole : Listing → List Listed → Option (List ℕ) → Option (List ℕ) → Type 0
-LeavesWhole how pairs old new = (front : List Listed) × (back : List Listed) × (front ++ back ≡ pairs) × Appends old new (pairs_by how front)
+LeavesWhole how pairs old new =
+    (front : List Listed) × (back : List Listed) × (front ++ back ≡ pairs) × Appends old new (pairs_by how front)
 
 -- Pairs are written one after another, and give their status; a failed write leaves a part of their text.
 abbrev pub WritesPairs : Listing → List Listed → Option (List ℕ) → Option (List ℕ) → Result ℕ CliFault → Type 0

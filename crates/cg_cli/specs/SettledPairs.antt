@@ -68,4 +68,5 @@ TellsUnsettled how st users subtrees old new =
 -- They are listed, and where there is a status what is written tells that.
 abbrev pub ListsUnsettled : Listing → State → List Identity → List Names → Option (List ℕ) → Option (List ℕ) → Result ℕ CliFault → Type 0
 ListsUnsettled how st users subtrees old new result =
-    ReportsFound (ReportsPairsBy how) st users subtrees old new result × IfOk result (λ status. TellsUnsettled how st users subtrees old new)
+    ReportsFound (ReportsPairsBy how) st users subtrees old new result
+    × IfOk result (λ status. TellsUnsettled how st users subtrees old new)

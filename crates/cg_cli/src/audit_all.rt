@@ -59,7 +59,8 @@ pub fn audit_all_bytes<W: Write>(
         (W.contents out.old) (W.contents out.new) result) }
     ensures unlisted { IfOk result (λ status. (st : State) (who : List Identity) (paths : List Names)
         → IsTextOf st tree.now → users_read (map (λ user. (user.uid, user.gids.now)) users.now) ≡ Ok who
-        → paths_read (map (λ subtree. subtree.now) subtrees.now) ≡ Ok paths → UnlistedAreContained st (once same_user who) (once same_path paths)) }
+        → paths_read (map (λ subtree. subtree.now) subtrees.now) ≡ Ok paths
+        → UnlistedAreContained st (once same_user who) (once same_path paths)) }
     ensures stranger { IsFirstStranger tree.now (map (λ user. (user.uid, user.gids.now)) users.now) result stranger.new }
 {
     let asked = AllPairs {
@@ -107,8 +108,8 @@ struct Listing<'t, H> {
 impl<H: Hierarchy + Drop> Listing<'_, H> {
     /// Writes all pairs that aren't contained, or that there is none.
     fn write<W: Write>(&self, users: &[User], out: &mut W) -> Result<u8, CliFault>
-        ensures report { ReportsPairsBy (listing_in self.now.format) (pairs_found (H.state self.now.tree.now) users.now self.now.subtrees.now)
-            (W.contents out.old) (W.contents out.new) result }
+        ensures report { ReportsPairsBy (listing_in self.now.format)
+            (pairs_found (H.state self.now.tree.now) users.now self.now.subtrees.now) (W.contents out.old) (W.contents out.new) result }
         ensures unlisted { IfOk result (λ status. UnlistedAreContained (H.state self.now.tree.now) users.now self.now.subtrees.now) }
     {
         if let Some(fault) = first_fault(self.tree, self.subtrees) {
@@ -165,8 +166,8 @@ pub(crate) fn write_pair<H: Hierarchy + Drop, W: Write>(
     out: &mut W,
 ) -> Result<u8, CliFault>
     requires there { first (subtree_faults (H.state tree.now) subtree.now) ≡ None }
-    ensures { WritesPairs (listing_in format) (listed_unless_contained user.now subtree.now (answer (H.state tree.now) user.now subtree.now))
-        (W.contents out.old) (W.contents out.new) result }
+    ensures { WritesPairs (listing_in format)
+        (listed_unless_contained user.now subtree.now (answer (H.state tree.now) user.now subtree.now)) (W.contents out.old) (W.contents out.new) result }
 {
     let answer = check(alloc, tree, user, subtree)?;
     if let Answer::Contained = answer {

@@ -302,7 +302,8 @@ fn write_rows<W: Write>(
 ) -> Result<u8, CliFault>
     requires all { length rows.now ≡ length users.now }
     requires lines { All (IsRowOfLines subtrees.now) rows.now }
-    ensures { WritesPairs (listing_in format) (rows_pairs users.now subtrees.now rows.now) (W.contents out.old) (W.contents out.new) result }
+    ensures { WritesPairs (listing_in format) (rows_pairs users.now subtrees.now rows.now)
+        (W.contents out.old) (W.contents out.new) result }
 {
     let mut worst = 0;
     for (place, user) in users.iter().enumerate() {
@@ -348,7 +349,8 @@ fn write_pair<W: Write>(
 ) -> Result<u8, CliFault>
     requires shown { IsShown subtree.now answer.now }
     requires listed { is_contained answer.now ≡ false }
-    ensures { WritesPairs (listing_in format) (listed_unless_contained user.now subtree.now answer.now) (W.contents out.old) (W.contents out.new) result }
+    ensures { WritesPairs (listing_in format) (listed_unless_contained user.now subtree.now answer.now)
+        (W.contents out.old) (W.contents out.new) result }
 {
     let text = text_of(alloc, user, subtree, answer, format)?;
     write_whole(out, text.as_slice())?;

@@ -1,4 +1,3 @@
--- What is told of a pair as JSON: nobody has to believe it.
 -- The JSON object of all that is told of a user and a subtree, with the words of its lines. Own.
 use Rattle.std.specs.Prelude.{ℕ, Bool, true, false, cond, List, [], ◌∷◌, ◌++◌, map, Option, Some, None, codes}
 use Rattle.std.specs.Option.{option_map}

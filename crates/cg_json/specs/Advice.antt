@@ -1,4 +1,3 @@
--- Answers as JSON: nobody has to believe it.
 -- The JSON object of the advice. Own.
 use Rattle.std.specs.Prelude.{List, ◌++◌, map, Option, Some, None, codes}
 use Rattle.cg_cgroup.specs.Paths.{path_text}

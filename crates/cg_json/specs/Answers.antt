@@ -1,4 +1,3 @@
--- Answers as JSON: nobody has to believe it.
 -- The JSON object of an answer, with the words of its lines. Own.
 use Rattle.std.specs.Prelude.{List, take, codes}
 use Rattle.cg_cgroup.specs.Paths.{Names, path_text}

@@ -1,4 +1,3 @@
--- Answers as JSON: nobody has to believe it.
 -- The JSON objects of pairs, and of the answer for several users and several subtrees. Own.
 use Rattle.std.specs.Prelude.{ℕ, List, [], get_or, codes}
 use Rattle.cg_cgroup.specs.Paths.{Names, path_text}

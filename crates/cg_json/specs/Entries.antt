@@ -1,4 +1,3 @@
--- Answers as JSON: nobody has to believe it.
 -- The JSON objects of guarded entries that let somebody in, and of changes. Own.
 use Rattle.std.specs.Prelude.{ℕ, List, [], ◌∷◌, ◌++◌, take, codes}
 use Rattle.std.specs.List.{filter}

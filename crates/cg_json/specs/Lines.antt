@@ -1,4 +1,3 @@
--- Answers as JSON: nobody has to believe it.
 -- A JSON value on a line. Own.
 use Rattle.std.specs.Prelude.{◌≡◌, ℕ, List, [], ◌∷◌, ◌++◌, Some}
 use Rattle.serde_json.specs.Data.{Data}

@@ -1,4 +1,3 @@
--- Answers as JSON: nobody has to believe it.
 -- JSON objects, member by member, and lists. Own.
 use Rattle.std.specs.Prelude.{ℕ, List, map}
 use Rattle.serde_json.specs.Data.{Data, string, number, array, unsigned, Members, put}

@@ -1,4 +1,3 @@
--- Answers as JSON: nobody has to believe it.
 -- The JSON objects of operations: the word of each, and what it names. Own.
 use Rattle.std.specs.Prelude.{ℕ, List, codes}
 use Rattle.cg_cgroup.specs.Paths.{path_text}

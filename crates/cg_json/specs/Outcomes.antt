@@ -1,4 +1,3 @@
--- Answers as JSON: nobody has to believe it.
 -- The JSON objects of an operation's outcome, and of the answer for a move, with the words of their lines. Own.
 use Rattle.std.specs.Prelude.{List, ℕ, take, codes, Option, Some, None}
 use Rattle.cg_cgroup.specs.Paths.{Names, path_text}

@@ -13,10 +13,7 @@ use Rattle.arguments.specs.Given.{ids_of, tree_file, other_file}
 use Rattle.cg_model.specs.Listed.{Listed}
 use Rattle.cg_format.specs.Readings.{Reading, vocabulary_in}
 use Rattle.cg_cli.specs.AllPairs.{Listing, all_report, ReportsPairsBy}
-use Rattle.cg_cli.specs.AsJson.{audit_json_report, advise_pairs_json_report}
-use Rattle.cg_cli.specs.Advising.{advise_pairs_report}
 use Rattle.cg_cli.specs.Asking.{CallEnding}
-use Rattle.cg_cli.specs.Audits.{audit_report}
 use Rattle.cg_cli.specs.EachPair.{audit_pairs_report, explain_pairs_asked}
 use Rattle.cg_cli.specs.Everybody.{everybody_report}
 use Rattle.cg_cli.specs.Explaining.{Writing, TellsPairsBy, ReportsToldBy}
@@ -31,7 +28,7 @@ use Rattle.cg_cli.specs.Reports.{Report, Reports, report_on}
 use Rattle.cg_faults.specs.declared.fault.CliFault.{CliFault}
 use Rattle.cg_faults.specs.declared.fault.CliFault.TheVariants.{Read, Write, NoMemory}
 use Rattle.commands.specs.Requests.{Files, source, name_of, may_said, check_said, whom, wanted_of, everybody_asked, SettlesAs, AdviseSays, GuardsSay, FurtherSay}
-use Rattle.commands.specs.Requests.{format_of, in_format, AuditSays, ExplainSays, AdvisesOn, AuditsOn, ExplainsOn, EverybodyOn, OnLines, OnBothTexts, replay_said, IsUnread, OnTreeText, OnTree, ReportsOnTree, ReplaysOver, CarriesOut}
+use Rattle.commands.specs.Requests.{format_of, audit_said, advise_pairs_said, AuditSays, ExplainSays, AdvisesOn, AuditsOn, ExplainsOn, EverybodyOn, OnLines, OnBothTexts, replay_said, IsUnread, OnTreeText, OnTree, ReportsOnTree, ReplaysOver, CarriesOut}
 use Rattle.commands.specs.PairLines.{pairs_read}
 use Rattle.commands.specs.SubtreeLines.{subtrees_read}
 use Rattle.cg_cgroup.specs.declared.files.Vocabulary.{Vocabulary}
@@ -115,18 +112,20 @@ ReportsPairs-Keeps how (Err fault) old mid new (Ok status) h k = h
 ReportsPairs-Keeps how (Err fault) old mid new (Err NoMemory) h k = (h.0, Keeps-Keeps old mid new h.1 k)
 ReportsPairs-Keeps how (Err fault) old mid new (Err other) h k = (h.0, Keeps-Keeps old mid new h.1 k)
 
-module _ (format : Written) (users : List (ℕ × List ℕ)) (subtrees : List (List ℕ)) (old mid new : Option (List ℕ)) (result : Result ℕ CliFault)
-    (tree : Reading) (k : Keeps mid new) where
+module _ (format : Written) (users : List (ℕ × List ℕ)) (subtrees : List (List ℕ)) (old mid new : Option (List ℕ))
+    (result : Result ℕ CliFault) (tree : Reading) (k : Keeps mid new) where
   AuditSays-by : (settle all : Bool)
-      → MatchBool settle (FurtherSay format all users subtrees old mid result tree) (GuardsSay format all users subtrees old mid result tree)
-      → MatchBool settle (FurtherSay format all users subtrees old new result tree) (GuardsSay format all users subtrees old new result tree)
+      → MatchBool settle (FurtherSay format all users subtrees old mid result tree)
+      (GuardsSay format all users subtrees old mid result tree)
+      → MatchBool settle (FurtherSay format all users subtrees old new result tree)
+      (GuardsSay format all users subtrees old new result tree)
   AuditSays-by true true said = (said.0, said.1, ReportsPairs-Keeps (listing_in (format_of format)) said.0 old mid new result said.2 k)
   AuditSays-by true false said =
       (said.0, said.1, Reports-Keeps (report_on said.0 (first_in (format_of format))) old mid new result said.2 k)
   AuditSays-by false true said =
       ReportsPairs-Keeps (listing_in (format_of format)) (all_report tree users subtrees) old mid new result said k
   AuditSays-by false false said =
-      Reports-Keeps (in_format format (audit_report tree users subtrees) (audit_json_report tree users subtrees)) old mid new result said k
+      Reports-Keeps (audit_said format tree users subtrees) old mid new result said k
 
 AuditSays-Keeps : (audit : Audit) (old mid new : Option (List ℕ)) (result : Result ℕ CliFault) (tree : Reading)
     → AuditSays audit old mid result tree → Keeps mid new → AuditSays audit old new result tree
@@ -193,7 +192,8 @@ SettlesAs-Keeps check old mid new result tree said k = (said.0, said.1, Reports-
 
 ExplainSays-Keeps : (explain : Explain) (old mid new : Option (List ℕ)) (result : Result ℕ CliFault) (tree : Reading)
     → ExplainSays explain old mid result tree → Keeps mid new → ExplainSays explain old new result tree
-ExplainSays-Keeps explain old mid new result tree said k = ReportsTold-Keeps (told_in (format_of explain.format)) _ old mid new result said k
+ExplainSays-Keeps explain old mid new result tree said k =
+    ReportsTold-Keeps (told_in (format_of explain.format)) _ old mid new result said k
 
 pub CarriesOut-Keeps : (asked : Request) (files : Files) (given old mid new : Option (List ℕ)) (result : Result ℕ CliFault)
     → CarriesOut asked files given old mid result → Keeps mid new → CarriesOut asked files given old new result
@@ -222,14 +222,15 @@ CarriesOut-Keeps (request.Advise advise) files given old mid new result h k =
     new result (λ tree said. AdviseSays-Keeps advise old mid new result tree said k) h k
 CarriesOut-Keeps (request.AdvisePairs asked) files given old mid new result h k =
     OnBothTexts-Keeps pairs_read (AdvisesOn asked.format) _ _ old mid new result
-    (λ pairs tree said kept. Reports-Keeps (in_format asked.format (advise_pairs_report tree pairs) (advise_pairs_json_report tree pairs))
-    old mid new result said kept) h k
+    (λ pairs tree said kept. Reports-Keeps (advise_pairs_said asked.format tree pairs) old mid new result said kept) h k
 CarriesOut-Keeps (request.AuditPairs asked) files given old mid new result h k =
     OnBothTexts-Keeps pairs_read (AuditsOn asked.format) _ _ old mid new result
-    (λ pairs tree said kept. ReportsPairs-Keeps (listing_in (format_of asked.format)) (audit_pairs_report tree pairs) old mid new result said kept) h k
+    (λ pairs tree said kept.
+    ReportsPairs-Keeps (listing_in (format_of asked.format)) (audit_pairs_report tree pairs) old mid new result said kept) h k
 CarriesOut-Keeps (request.ExplainPairs asked) files given old mid new result h k =
     OnBothTexts-Keeps pairs_read (ExplainsOn asked.format) _ _ old mid new result
-    (λ pairs tree said kept. ReportsTold-Keeps (told_in (format_of asked.format)) (explain_pairs_asked tree pairs) old mid new result said kept) h k
+    (λ pairs tree said kept.
+    ReportsTold-Keeps (told_in (format_of asked.format)) (explain_pairs_asked tree pairs) old mid new result said kept) h k
 CarriesOut-Keeps (request.Replay replay) files given old mid new result h k =
     let ops = source files (other_file replay.sources) given in
     OnTreeText-Keeps (source files (tree_file replay.sources) given)

@@ -47,7 +47,7 @@ use Rattle.machine_answers.specs.Contained.{of_ids, IsContainedIn, AreContainedI
 use Rattle.machine_answers.proofs.MachineLaws.{contained_in}
 use Rattle.machine_answers.proofs.AuditedLaws.{audited_in, all_audited_in}
 use Rattle.machine_answers.proofs.EverybodyLaws.{held_against_everybody}
-use Rattle.commands.specs.Requests.{Files, source, name_of, IsTree, IsOtherText, IsUnread, format_of, in_format, check_said, whom, wanted_of, everybody_asked, EverybodyOn, OnLines, GuardsSay, FurtherSay, CarriesOut}
+use Rattle.commands.specs.Requests.{Files, source, name_of, IsTree, IsOtherText, IsUnread, format_of, in_format, check_said, audit_said, whom, wanted_of, everybody_asked, EverybodyOn, OnLines, GuardsSay, FurtherSay, CarriesOut}
 use Rattle.commands.specs.Runs.{IsFlushed, LeadsTo, RunsTo, exit_status}
 use Rattle.commands.specs.SubtreeLines.{subtrees_read, AreLinesOf}
 use Rattle.commands.specs.Yes.{AsksCheck, AsksAudit, AsksEverybody, AsksEverybodyOfLines, WasRead, CheckMeans, AuditMeans, EverybodyMeans}
@@ -105,17 +105,21 @@ unread_pairs (Ok a) (Err other) fault report found is = cc
 unread_pairs (Err other) two fault report found is = cc
 
 -- however it is written
+pub ends_alike : (format : Written) (lines json : Report) → json.ending ≡ lines.ending → (in_format format lines json).ending ≡ lines.ending
+ends_alike written_as.Lines lines json same = refl
+ends_alike written_as.Json lines json same = same
+
 check_zero : (format : Written) (tree : Reading) (uid : ℕ) (gids word : List ℕ)
     → (in_format format (check_report tree uid gids word) (check_json_report tree uid gids word)).ending ≡ Ok 0
     → (check_report tree uid gids word).ending ≡ Ok 0
-check_zero written_as.Lines tree uid gids word is = is
-check_zero written_as.Json tree uid gids word is = sym (check_ending tree uid gids word) ∙ is
+check_zero format tree uid gids word is =
+    sym (ends_alike format (check_report tree uid gids word) (check_json_report tree uid gids word) (check_ending tree uid gids word)) ∙ is
 
 audit_zero : (format : Written) (tree : Reading) (users : List (ℕ × List ℕ)) (subtrees : List (List ℕ))
-    → (in_format format (audit_report tree users subtrees) (audit_json_report tree users subtrees)).ending ≡ Ok 0
-    → (audit_report tree users subtrees).ending ≡ Ok 0
-audit_zero written_as.Lines tree users subtrees is = is
-audit_zero written_as.Json tree users subtrees is = sym (audit_ending tree users subtrees) ∙ is
+    → (audit_said format tree users subtrees).ending ≡ Ok 0 → (audit_report tree users subtrees).ending ≡ Ok 0
+audit_zero format tree users subtrees is =
+    sym (ends_alike format (audit_report tree users subtrees) (audit_json_report tree users subtrees) (audit_ending tree users subtrees))
+    ∙ is
 
 check_refused : (fault : TreeFault) (uid : ℕ) (gids word : List ℕ) → (check_report (Err fault) uid gids word).ending ≡ Ok 0 → ⊥
 check_refused fault uid gids word is =
@@ -177,7 +181,7 @@ module _ (files : Files) (given old new : Option (List ℕ)) where
       subtrees = map (λ subtree. subtree.now) audit.subtrees.items
 
       first_of : (read : Reading) → IsReading text read
-          → Reports (in_format audit.format (audit_report read users subtrees) (audit_json_report read users subtrees)) old new (Ok 0)
+          → Reports (audit_said audit.format read users subtrees) old new (Ok 0)
           → (text : List ℕ) × WasRead files (name_of audit.tree) given text × AreContainedIn text (map of_ids users) subtrees
       first_of (Ok st) reading reports = (
         text,

@@ -125,20 +125,31 @@ abbrev pub SettlesAs : Check → Option (List ℕ) → Option (List ℕ) → Res
 SettlesAs check old new result tree =
     AskedReports (SettlesIn check.format) tree check.user.uid check.user.gids.items check.subtree.now old new result
 
+abbrev pub audit_said : Written → Reading → List (ℕ × List ℕ) → List (List ℕ) → Report
+audit_said format tree users subtrees = in_format format (audit_report tree users subtrees) (audit_json_report tree users subtrees)
+
+abbrev pub advise_said : Written → Reading → List (ℕ × List ℕ) → List (List ℕ) → Report
+advise_said format tree users subtrees = in_format format (advise_report tree users subtrees) (advise_json_report tree users subtrees)
+
+abbrev pub advise_settled_said : Written → Reading → List (ℕ × List ℕ) → List (List ℕ) → Report
+advise_settled_said format tree users subtrees =
+    in_format format (advise_settled_report tree users subtrees) (advise_settled_json_report tree users subtrees)
+
+abbrev pub advise_pairs_said : Written → Reading → List GivenPair → Report
+advise_pairs_said format tree pairs = in_format format (advise_pairs_report tree pairs) (advise_pairs_json_report tree pairs)
+
 -- what guards tell to change, or what is to be changed where the second row doesn't hold
 abbrev pub AdviseSays : Advise → Option (List ℕ) → Option (List ℕ) → Result ℕ CliFault → Reading → Type 0
 AdviseSays advise old new result tree =
     let users = map ids_of advise.users.items in
     let subtrees = map (λ subtree. subtree.now) advise.subtrees.items in
-    MatchBool advise.settle
-    (Reports (in_format advise.format (advise_settled_report tree users subtrees) (advise_settled_json_report tree users subtrees)) old new
-    result)
-    (Reports (in_format advise.format (advise_report tree users subtrees) (advise_json_report tree users subtrees)) old new result)
+    MatchBool advise.settle (Reports (advise_settled_said advise.format tree users subtrees) old new result)
+    (Reports (advise_said advise.format tree users subtrees) old new result)
 
 -- ---- what is answered of what the lines of a text name, on what the text of a tree is read as
 
 abbrev pub AdvisesOn : Written → List GivenPair → Reading → CallEnding
-AdvisesOn format pairs tree = Reports (in_format format (advise_pairs_report tree pairs) (advise_pairs_json_report tree pairs))
+AdvisesOn format pairs tree = Reports (advise_pairs_said format tree pairs)
 
 abbrev pub AuditsOn : Written → List GivenPair → Reading → CallEnding
 AuditsOn format pairs tree = ReportsPairsBy (listing_in (format_of format)) (audit_pairs_report tree pairs)
@@ -159,7 +170,7 @@ abbrev pub GuardsSay : Written → Bool → List (ℕ × List ℕ) → List (Lis
     → Result ℕ CliFault → Reading → Type 0
 GuardsSay format all users subtrees old new result tree =
     MatchBool all (ReportsPairsBy (listing_in (format_of format)) (all_report tree users subtrees) old new result)
-    (Reports (in_format format (audit_report tree users subtrees) (audit_json_report tree users subtrees)) old new result)
+    (Reports (audit_said format tree users subtrees) old new result)
 
 -- the same of pairs that the second row of guards and the planner leave
 abbrev pub FurtherSay : Written → Bool → List (ℕ × List ℕ) → List (List ℕ) → Option (List ℕ) → Option (List ℕ)
@@ -251,11 +262,14 @@ CarriesOut (request.Explain explain) files given old new result =
 CarriesOut (request.Advise advise) files given old new result =
     OnTree (source files (name_of advise.tree) given) (AdviseSays advise old new result) old new result
 CarriesOut (request.AdvisePairs asked) files given old new result =
-    OnPairsText (AdvisesOn asked.format) (source files (tree_file asked.sources) given) (source files (other_file asked.sources) given) old new result
+    OnPairsText (AdvisesOn asked.format) (source files (tree_file asked.sources) given)
+    (source files (other_file asked.sources) given) old new result
 CarriesOut (request.AuditPairs asked) files given old new result =
-    OnPairsText (AuditsOn asked.format) (source files (tree_file asked.sources) given) (source files (other_file asked.sources) given) old new result
+    OnPairsText (AuditsOn asked.format) (source files (tree_file asked.sources) given)
+    (source files (other_file asked.sources) given) old new result
 CarriesOut (request.ExplainPairs asked) files given old new result =
-    OnPairsText (ExplainsOn asked.format) (source files (tree_file asked.sources) given) (source files (other_file asked.sources) given) old new result
+    OnPairsText (ExplainsOn asked.format) (source files (tree_file asked.sources) given)
+    (source files (other_file asked.sources) given) old new result
 CarriesOut (request.Upgrade upgrade) files given old new result =
     OnTreeText (source files (name_of upgrade.tree) given) (λ vocabulary. Upgrades vocabulary old new result) old new result
 CarriesOut (request.Replay replay) files given old new result =

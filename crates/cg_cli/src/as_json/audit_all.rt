@@ -38,7 +38,8 @@ pub fn audit_all_json_bytes<W: Write>(
         (W.contents out.old) (W.contents out.new) result) }
     ensures unlisted { IfOk result (λ status. (st : State) (who : List Identity) (paths : List Names)
         → IsTextOf st tree.now → users_read (map (λ user. (user.uid, user.gids.now)) users.now) ≡ Ok who
-        → paths_read (map (λ subtree. subtree.now) subtrees.now) ≡ Ok paths → UnlistedAreContained st (once same_user who) (once same_path paths)) }
+        → paths_read (map (λ subtree. subtree.now) subtrees.now) ≡ Ok paths
+        → UnlistedAreContained st (once same_user who) (once same_path paths)) }
     ensures stranger { IsFirstStranger tree.now (map (λ user. (user.uid, user.gids.now)) users.now) result stranger.new }
 {
     let asked = AllPairs {

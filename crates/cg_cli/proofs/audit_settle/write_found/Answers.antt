@@ -10,14 +10,16 @@ pub returns-in-Some-clause-report : goal.returns-in-Some-clause-report
 returns-in-Some-clause-report g c =
     let st = g.H.Hierarchy.state c.args.tree.now in
     let known = g.W.Write.contents c.args.out.now in
-    subst (λ (fault : CliFault). ReportsFound (ReportsPairsBy (listing_in c.args.format)) st c.args.users.now c.args.subtrees.now known known (Err fault))
+    subst (λ (fault : CliFault).
+    ReportsFound (ReportsPairsBy (listing_in c.args.format)) st c.args.users.now c.args.subtrees.now known known (Err fault))
     (sym c.from.ensures)
-    (subtree_found st c.args.users.now c.args.subtrees.now (listing_in c.args.format) c.in-Some.fault known (sym c.in-Some.is ∙ c.first_fault.ensures.fault))
+    (subtree_found st c.args.users.now c.args.subtrees.now (listing_in c.args.format) c.in-Some.fault known
+    (sym c.in-Some.is ∙ c.first_fault.ensures.fault))
 
 pub returns-in_err-rows-clause-report : goal.returns-in_err-rows-clause-report
 returns-in_err-rows-clause-report g c =
-    memory_wanted (g.H.Hierarchy.state c.args.tree.now) c.args.users.now c.args.subtrees.now (listing_in c.args.format) (g.W.Write.contents c.args.out.now)
-    c.from_residual.result c.from_residual.ensures.1
+    memory_wanted (g.H.Hierarchy.state c.args.tree.now) c.args.users.now c.args.subtrees.now (listing_in c.args.format)
+    (g.W.Write.contents c.args.out.now) c.from_residual.result c.from_residual.ensures.1
 
 pub write_listing-requires : goal.write_listing-requires
 write_listing-requires g c =

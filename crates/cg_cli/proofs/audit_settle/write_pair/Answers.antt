@@ -9,7 +9,8 @@ pub returns-in_err-text : goal.returns-in_err-text
 returns-in_err-text g c =
     let p = err_from_is_err_and c.from_residual.result c.from_residual.ensures.1 in
     rw (p.1, p.2)
-    (wants (listing_in c.args.format) (listed_unless_contained c.args.user.now c.args.subtree.now c.args.answer.now) (g.W.Write.contents c.args.out.now))
+    (wants (listing_in c.args.format) (listed_unless_contained c.args.user.now c.args.subtree.now c.args.answer.now)
+    (g.W.Write.contents c.args.out.now))
 
 pub returns-in_err-write_whole : goal.returns-in_err-write_whole
 returns-in_err-write_whole g c =

@@ -23,13 +23,14 @@ returns-in_err-write_pair g c =
     let p = err_from_is_err_and c.from_residual.result c.from_residual.ensures.1 in
     rw (p.1, p.2)
     (pair_stops (told_in c.args.format) (g.H.Hierarchy.state c.args.tree.now) c.args.pairs.now c.loop-pair.pair-index c.pair-item.result
-    c.loop-pair-test.true c.pair-item.is _ _ _ c.loop-pair.worst c.loop-pair.invariant c.in_err-write_pair.field-0.0 c.in_err-write_pair.ensures)
+    c.loop-pair-test.true c.pair-item.is _ _ _ c.loop-pair.worst c.loop-pair.invariant c.in_err-write_pair.field-0.0
+    c.in_err-write_pair.ensures)
 
 pub loop-pair-preserved : goal.loop-pair-preserved
 loop-pair-preserved g c =
     pair_told_more (told_in c.args.format) (g.H.Hierarchy.state c.args.tree.now) c.args.pairs.now c.loop-pair.pair-index
-    c.pair-item.result c.loop-pair-test.true c.pair-item.is _ _ _ c.loop-pair.worst c.loop-pair.invariant c.in_ok-write_pair.field-0 c.worse-worst.result c.worse-worst.ensures
-    c.in_ok-write_pair.ensures
+    c.pair-item.result c.loop-pair-test.true c.pair-item.is _ _ _ c.loop-pair.worst c.loop-pair.invariant c.in_ok-write_pair.field-0
+    c.worse-worst.result c.worse-worst.ensures c.in_ok-write_pair.ensures
 
 pub returns : goal.returns
 returns g c =
