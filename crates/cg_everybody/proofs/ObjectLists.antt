@@ -1,5 +1,5 @@
 -- The objects of the classes of an entry, and of what is found of a subtree.
-use Rattle.std.proofs.Common.{◌≡◌, ℕ, ◌<◌, Bool, true, false, cond, List, [], ◌∷◌, ◌++◌, map, length, refl, sym, ap, ◌∙◌, append_assoc, append-nil, codes, arith}
+use Rattle.std.proofs.Common.{◌≡◌, ◌<◌, Bool, true, false, cond, List, [], ◌∷◌, ◌++◌, map, length, refl, sym, ap, ◌∙◌, append_assoc, append-nil, codes, arith}
 use Rattle.std.specs.List.{filter}
 use Rattle.cg_cgroup.specs.Paths.{Names}
 use Rattle.cg_model.specs.declared.guard.GuardedEntry.{GuardedEntry}

@@ -1,12 +1,11 @@
 -- The objects on everybody have no float, and nest less deep than what is read may.
 use Rattle.std.proofs.Common.{ℕ, suc, ◌≤◌, Bool, true, false, cond, List, [], ◌∷◌, ◌++◌, map, codes, Option, Some, None, arith}
-use Rattle.std.specs.List.{flat_map, AllByRecursion}
+use Rattle.std.specs.List.{flat_map}
 use Rattle.std.specs.Option.{option_map}
 use Rattle.cg_cgroup.specs.Paths.{Names, path_text, same_path}
 use Rattle.cg_model.specs.Clauses.{present}
 use Rattle.cg_model.specs.Guards.{Guarded, guarded_entries, standing}
 use Rattle.cg_model.specs.GuardNames.{guard_name}
-use Rattle.cg_model.specs.Limits.{fits_descendants, fits_depth}
 use Rattle.cg_model.specs.Once.{once}
 use Rattle.cg_model.specs.States.{State, row_at}
 use Rattle.cg_model.specs.declared.guard.Guard.TheVariants.{AlreadyOver}
@@ -16,7 +15,7 @@ use Rattle.cg_advice.specs.WayLines.{Spot}
 use Rattle.serde_json.specs.Data.{Data, array, object, Members, no_members}
 use Rattle.serde_json.specs.View.{items_of}
 use Rattle.cg_json.specs.Members.{each_value, numbers_value}
-use Rattle.cg_json.specs.Entries.{at_guard, entry_members, classes_value}
+use Rattle.cg_json.specs.Entries.{at_guard, classes_value}
 use Rattle.cg_json.proofs.Plain.{IsPlain, ArePlain, put_plain, text_more, number_more, none_plain, object_plain, list_plain, numbers_plain, deeper}
 use Rattle.cg_json.proofs.PlainAdvice.{guard_plain, at_plain, classes_plain, failing_plain}
 use Rattle.cg_explain.specs.Counted.{counts_of}

@@ -1,4 +1,4 @@
-use Rattle.std.proofs.Common.{◌≡◌, ap, sym, ◌∙◌, Ok}
+use Rattle.std.proofs.Common.{ap, sym, ◌∙◌, Ok}
 use Rattle.cg_everybody.specs.Everybody.{everybody_of}
 use Rattle.cg_cli.specs.Everybody.{found_status, wanted_text}
 use Rattle.cg_cli.specs.Reports.{Report}
