@@ -16,7 +16,7 @@ use cg_report::verdict::verdict_text;
 use std::alloc::Global;
 
 /// Which controllers operation lines name, and how an answer to one is written.
-#[derive(Clone, Copy, Debug, PartialEq, Eq)]
+#[derive(Clone, Copy)]
 pub struct Protocol {
     pub vocabulary: Vocabulary,
     pub format: Format,
