@@ -1,5 +1,5 @@
 -- The report on subtrees and everybody but root, whoever there is. Own.
-use Rattle.std.specs.Prelude.{ℕ, List, [], ◌∷◌, ◌++◌, Option, Result, Ok}
+use Rattle.std.specs.Prelude.{ℕ, Bool, true, false, List, [], ◌∷◌, ◌++◌, Option, Result, Ok}
 use Rattle.std.specs.List.{flat_map}
 use Rattle.cg_cgroup.specs.Identity.{Identity}
 use Rattle.cg_cgroup.specs.Paths.{Names, same_path}
@@ -44,10 +44,15 @@ wanted_lines Audit asked st subtrees found = or_contained found found
 wanted_lines Advise asked st subtrees found = or_contained found (everybody_advice st asked subtrees)
 wanted_lines Explain asked st subtrees found = everybody_explained st asked subtrees
 
+-- whether something is found that lets somebody break one
+abbrev pub is_found : List ℕ → Bool
+is_found [] = false
+is_found (byte ∷ bytes) = true
+
 abbrev pub wanted_value : Wanted → Everybody → State → List Names → List ℕ → Data
-wanted_value Audit asked st subtrees found = audited_value st asked subtrees found
-wanted_value Advise asked st subtrees found = advised_value st asked subtrees found
-wanted_value Explain asked st subtrees found = explained_value st asked subtrees found
+wanted_value Audit asked st subtrees found = audited_value st asked subtrees (is_found found)
+wanted_value Advise asked st subtrees found = advised_value st asked subtrees (is_found found)
+wanted_value Explain asked st subtrees found = explained_value st asked subtrees (is_found found)
 
 -- and last what it stands on
 abbrev pub wanted_text : Format → Wanted → Everybody → State → List Names → List ℕ → List ℕ

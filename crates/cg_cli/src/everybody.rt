@@ -6,7 +6,7 @@ ghost use Rattle.cg_model.specs.Guards.{IsSubtree};
 ghost use Rattle.cg_format.specs.Readings.{OnText};
 ghost use Rattle.cg_everybody.specs.Everybody.{everybody_of, everybody_lines};
 ghost use Rattle.cg_everybody.specs.Premises.{premise_lines};
-ghost use Rattle.cg_cli.specs.Everybody.{found_status, wanted_lines, wanted_value, wanted_text, found_report_in, everybody_found, everybody_said_in, AnswersEverybody, everybody_report, everybody_report_in};
+ghost use Rattle.cg_cli.specs.Everybody.{found_status, wanted_lines, is_found, wanted_value, wanted_text, found_report_in, everybody_found, everybody_said_in, AnswersEverybody, everybody_report, everybody_report_in};
 ghost use Rattle.cg_cli.specs.Reports.{Reports};
 
 use crate::advise::contained_line;
@@ -233,9 +233,19 @@ fn wanted_json<H: Hierarchy>(
     ensures { IfOk result (λ text. text.items
         ≡ json_line (wanted_value wanted (everybody_of asked.now) (H.state tree.now) subtrees.now found.now)) }
 {
+    let found = is_found(found);
     match wanted {
         Wanted::Audit => audited_json(alloc, tree, asked, subtrees, found),
         Wanted::Advise => advised_json(alloc, tree, asked, subtrees, found),
         Wanted::Explain => explained_json(alloc, tree, asked, subtrees, found),
+    }
+}
+
+fn is_found(found: &[u8]) -> bool
+    ensures { result ≡ is_found found.now }
+{
+    match found {
+        [] => false,
+        _ => true,
     }
 }

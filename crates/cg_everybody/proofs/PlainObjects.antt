@@ -54,11 +54,11 @@ premises_more asked ms n room p =
 
 -- ---- subtrees
 
-answer_plain : (found : List ℕ) (n : ℕ) → ArePlain (found_answer found) n
-answer_plain [] n = text_more (codes "answer") (codes "contained") no_members n (none_plain n)
-answer_plain (byte ∷ bytes) n = text_more (codes "answer") (codes "fails") no_members n (none_plain n)
+answer_plain : (found : Bool) (n : ℕ) → ArePlain (found_answer found) n
+answer_plain false n = text_more (codes "answer") (codes "contained") no_members n (none_plain n)
+answer_plain true n = text_more (codes "answer") (codes "fails") no_members n (none_plain n)
 
-found_members_plain : (asked : Everybody) (found : List ℕ) (subtrees : List Data) (n : ℕ) → 2 ≤ n → AllArePlain n subtrees
+found_members_plain : (asked : Everybody) (found : Bool) (subtrees : List Data) (n : ℕ) → 2 ≤ n → AllArePlain n subtrees
     → ArePlain (found_members asked found subtrees) (suc n)
 found_members_plain asked found subtrees n room all =
     premises_more asked _ (suc n) (omega (arith, room))
@@ -91,7 +91,7 @@ headed_plain : (subtree : Names) (values : List Data) → AllArePlain 3 values �
 headed_plain subtree [] all = tt
 headed_plain subtree (value ∷ values) all = (subtree_plain (codes "fails") subtree (value ∷ values) 3 all, tt)
 
-pub audited_plain : (st : State) (asked : Everybody) (subtrees : List Names) (found : List ℕ)
+pub audited_plain : (st : State) (asked : Everybody) (subtrees : List Names) (found : Bool)
     → ArePlain (audited_members st asked subtrees found) 6
 audited_plain st asked subtrees found =
     found_members_plain asked found (flat_map (subtree_audited st asked) subtrees) 5 (omega arith)
@@ -121,7 +121,7 @@ guards_plain st asked subtree =
     (λ (guarded : Guarded). standing_plain st asked subtree (standing st subtree guarded)) (guarded_entries subtree))
     (counts_plain subtree (option_map (counts_of st subtree) (row_at st subtree)))
 
-pub explained_plain : (st : State) (asked : Everybody) (subtrees : List Names) (found : List ℕ)
+pub explained_plain : (st : State) (asked : Everybody) (subtrees : List Names) (found : Bool)
     → ArePlain (explained_members st asked subtrees found) 4
 explained_plain st asked subtrees found =
     found_members_plain asked found (map (subtree_explained_value st asked) subtrees) 3 (omega arith)
@@ -130,11 +130,11 @@ explained_plain st asked subtrees found =
 
 -- ---- what to change
 
-contained_plain : (found : List ℕ) (ms : Members) → ArePlain ms 4 → ArePlain (or_contained found ms) 4
-contained_plain [] ms p = text_more (codes "answer") (codes "contained") no_members 4 (none_plain 4)
-contained_plain (byte ∷ bytes) ms p = p
+contained_plain : (found : Bool) (ms : Members) → ArePlain ms 4 → ArePlain (or_contained found ms) 4
+contained_plain false ms p = text_more (codes "answer") (codes "contained") no_members 4 (none_plain 4)
+contained_plain true ms p = p
 
-pub advised_plain : (st : State) (asked : Everybody) (subtrees : List Names) (found : List ℕ)
+pub advised_plain : (st : State) (asked : Everybody) (subtrees : List Names) (found : Bool)
     → ArePlain (advised_members st asked subtrees found) 4
 advised_plain st asked subtrees found =
     premises_more asked _ 4 (omega arith) (contained_plain found (changes_members st asked subtrees)

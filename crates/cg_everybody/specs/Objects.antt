@@ -1,6 +1,6 @@
 -- Answers on everybody as JSON: nobody has to believe it.
 -- The JSON objects of whom the guarded entries of subtrees let in, whoever there is, with the words of their lines. Own.
-use Rattle.std.specs.Prelude.{ℕ, ◌&&◌, cond, List, [], ◌∷◌, ◌++◌, map, Some, None, codes}
+use Rattle.std.specs.Prelude.{ℕ, Bool, true, false, ◌&&◌, cond, List, [], ◌∷◌, ◌++◌, map, Some, None, codes}
 use Rattle.std.specs.List.{flat_map}
 use Rattle.cg_cgroup.specs.Paths.{Names, path_text, same_path}
 use Rattle.cg_model.specs.Clauses.{present}
@@ -38,13 +38,13 @@ put_premises asked members =
 
 -- ---- subtrees
 
--- `contained` where no line is found
-abbrev pub found_answer : List ℕ → Members
-found_answer [] = contained_members
-found_answer (byte ∷ bytes) = put_text (codes "answer") (codes "fails") no_members
+-- whether there is somebody who may break one
+abbrev pub found_answer : Bool → Members
+found_answer false = contained_members
+found_answer true = put_text (codes "answer") (codes "fails") no_members
 
 -- with a list of subtrees
-abbrev pub found_members : Everybody → List ℕ → List Data → Members
+abbrev pub found_members : Everybody → Bool → List Data → Members
 found_members asked found subtrees =
     put_premises asked (put (codes "subtrees") (array (items_of subtrees)) (found_answer found))
 
@@ -74,10 +74,10 @@ headed_values subtree (value ∷ values) = subtree_value (codes "fails") subtree
 abbrev pub subtree_audited : State → Everybody → Names → List Data
 subtree_audited st asked subtree = headed_values subtree (found_values st asked subtree)
 
-abbrev pub audited_members : State → Everybody → List Names → List ℕ → Members
+abbrev pub audited_members : State → Everybody → List Names → Bool → Members
 audited_members st asked subtrees found = found_members asked found (flat_map (subtree_audited st asked) subtrees)
 
-abbrev pub audited_value : State → Everybody → List Names → List ℕ → Data
+abbrev pub audited_value : State → Everybody → List Names → Bool → Data
 audited_value st asked subtrees found = object (audited_members st asked subtrees found)
 
 -- ---- whom each guarded entry lets in
@@ -101,10 +101,10 @@ guards_values st asked subtree = flat_map (guarded_values st asked subtree) (gua
 abbrev pub subtree_explained_value : State → Everybody → Names → Data
 subtree_explained_value st asked subtree = subtree_value (codes "guards") subtree (guards_values st asked subtree)
 
-abbrev pub explained_members : State → Everybody → List Names → List ℕ → Members
+abbrev pub explained_members : State → Everybody → List Names → Bool → Members
 explained_members st asked subtrees found = found_members asked found (map (subtree_explained_value st asked) subtrees)
 
-abbrev pub explained_value : State → Everybody → List Names → List ℕ → Data
+abbrev pub explained_value : State → Everybody → List Names → Bool → Data
 explained_value st asked subtrees found = object (explained_members st asked subtrees found)
 
 -- ---- what to change
@@ -114,13 +114,13 @@ abbrev pub changes_members : State → Everybody → List Names → Members
 changes_members st asked subtrees =
     failing_members (map (let_into asked) (spots_met st asked subtrees)) (flat_map (raised_of st) (once same_path subtrees))
 
--- `contained` where no line is found
-abbrev pub or_contained : List ℕ → Members → Members
-or_contained [] members = contained_members
-or_contained (byte ∷ bytes) members = members
+-- where there is somebody who may break one
+abbrev pub or_contained : Bool → Members → Members
+or_contained false members = contained_members
+or_contained true members = members
 
-abbrev pub advised_members : State → Everybody → List Names → List ℕ → Members
+abbrev pub advised_members : State → Everybody → List Names → Bool → Members
 advised_members st asked subtrees found = put_premises asked (or_contained found (changes_members st asked subtrees))
 
-abbrev pub advised_value : State → Everybody → List Names → List ℕ → Data
+abbrev pub advised_value : State → Everybody → List Names → Bool → Data
 advised_value st asked subtrees found = object (advised_members st asked subtrees found)

@@ -24,8 +24,8 @@ mod audited;
 mod explained;
 
 /// What `everybody_lines` says as JSON, on a line, with what it stands on: an object for each subtree that somebody who is asked about
-/// may break, and in it one for each entry that lets somebody in and one where the subtree is over its limits. `found` are those lines.
-/// What is written reads as that object.
+/// may break, and in it one for each entry that lets somebody in and one where the subtree is over its limits. `found` says whether there
+/// are such lines. What is written reads as that object.
 ///
 /// # Errors
 /// `NoMemory` where an allocation was refused.
@@ -34,11 +34,11 @@ pub fn audited_json<H: Hierarchy>(
     tree: &H,
     asked: &Asked<'_>,
     subtrees: &[Path],
-    found: &[u8],
+    found: bool,
 ) -> Result<Vec<u8>, NoMemory>
     requires { All (IsSubtree (H.state tree.now)) subtrees.now }
     ensures { IfOk result (λ text.
-        IsLineOf (audited_value (H.state tree.now) (everybody_of asked.now) subtrees.now found.now) text.items) }
+        IsLineOf (audited_value (H.state tree.now) (everybody_of asked.now) subtrees.now found) text.items) }
 {
     let values = audited_values(alloc, tree, asked, subtrees)?;
     let members = found_members(alloc, asked, found, values)?;
@@ -46,7 +46,7 @@ pub fn audited_json<H: Hierarchy>(
 }
 
 /// What `everybody_explained` says as JSON, on a line, with what it stands on: an object for each subtree, and in it one for each line.
-/// `found` are the lines that `everybody_lines` finds of them. What is written reads as that object.
+/// `found` says whether `everybody_lines` has lines of them. What is written reads as that object.
 ///
 /// # Errors
 /// `NoMemory` where an allocation was refused.
@@ -55,11 +55,11 @@ pub fn explained_json<H: Hierarchy>(
     tree: &H,
     asked: &Asked<'_>,
     subtrees: &[Path],
-    found: &[u8],
+    found: bool,
 ) -> Result<Vec<u8>, NoMemory>
     requires { All (IsSubtree (H.state tree.now)) subtrees.now }
     ensures { IfOk result (λ text.
-        IsLineOf (explained_value (H.state tree.now) (everybody_of asked.now) subtrees.now found.now) text.items) }
+        IsLineOf (explained_value (H.state tree.now) (everybody_of asked.now) subtrees.now found) text.items) }
 {
     let values = explained_values(alloc, tree, asked, subtrees)?;
     let members = found_members(alloc, asked, found, values)?;
@@ -67,8 +67,8 @@ pub fn explained_json<H: Hierarchy>(
 }
 
 /// What `everybody_advice` says as JSON, on a line, with what it stands on: an object for each entry that lets somebody in and for each
-/// subtree that is over its limits, and what mends it. `found` are the lines that `everybody_lines` finds; where there is none nothing is
-/// to be changed. What is written reads as that object.
+/// subtree that is over its limits, and what mends it. `found` says whether `everybody_lines` has lines of them; where it has none nothing
+/// is to be changed. What is written reads as that object.
 ///
 /// # Errors
 /// `NoMemory` where an allocation was refused.
@@ -77,11 +77,11 @@ pub fn advised_json<H: Hierarchy>(
     tree: &H,
     asked: &Asked<'_>,
     subtrees: &[Path],
-    found: &[u8],
+    found: bool,
 ) -> Result<Vec<u8>, NoMemory>
     requires { All (IsSubtree (H.state tree.now)) subtrees.now }
     ensures { IfOk result (λ text.
-        IsLineOf (advised_value (H.state tree.now) (everybody_of asked.now) subtrees.now found.now) text.items) }
+        IsLineOf (advised_value (H.state tree.now) (everybody_of asked.now) subtrees.now found) text.items) }
 {
     let members = advised_members(alloc, tree, asked, subtrees, found)?;
     line_of(alloc, members)
@@ -91,11 +91,11 @@ pub fn advised_json<H: Hierarchy>(
 fn found_members(
     alloc: Global,
     asked: &Asked<'_>,
-    found: &[u8],
+    found: bool,
     subtrees: Vec<Value>,
 ) -> Result<Map<String, Value>, AllocError>
     ensures { IfOk result (λ members. members_view members.entries
-        ≡ found_members (everybody_of asked.now) found.now (map view subtrees.items)) }
+        ≡ found_members (everybody_of asked.now) found (map view subtrees.items)) }
 {
     let mut members = found_answer(alloc, found)?;
     put(&mut members, alloc, "subtrees", Value::from(subtrees))?;
@@ -103,13 +103,14 @@ fn found_members(
     Ok(members)
 }
 
-/// That nothing is found, or something.
-fn found_answer(alloc: Global, found: &[u8]) -> Result<Map<String, Value>, AllocError>
-    ensures { IfOk result (λ members. members_view members.entries ≡ found_answer found.now) }
+/// Whether there is somebody who may break a subtree.
+fn found_answer(alloc: Global, found: bool) -> Result<Map<String, Value>, AllocError>
+    ensures { IfOk result (λ members. members_view members.entries ≡ found_answer found) }
 {
-    match found {
-        [] => text_alone(alloc, "answer", "contained"),
-        _ => text_alone(alloc, "answer", "fails"),
+    if found {
+        text_alone(alloc, "answer", "fails")
+    } else {
+        text_alone(alloc, "answer", "contained")
     }
 }
 

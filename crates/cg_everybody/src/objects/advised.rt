@@ -29,32 +29,33 @@ pub fn advised_members<H: Hierarchy>(
     tree: &H,
     asked: &Asked<'_>,
     subtrees: &[Path],
-    found: &[u8],
+    found: bool,
 ) -> Result<Map<String, Value>, NoMemory>
     requires { All (IsSubtree (H.state tree.now)) subtrees.now }
     ensures { IfOk result (λ members. members_view members.entries
-        ≡ advised_members (H.state tree.now) (everybody_of asked.now) subtrees.now found.now) }
+        ≡ advised_members (H.state tree.now) (everybody_of asked.now) subtrees.now found) }
 {
     let mut members = or_contained(alloc, tree, asked, subtrees, found)?;
     put_premises(&mut members, alloc, asked)?;
     Ok(members)
 }
 
-/// What to change, where something is found.
+/// What to change, where there is somebody who may break a subtree.
 fn or_contained<H: Hierarchy>(
     alloc: Global,
     tree: &H,
     asked: &Asked<'_>,
     subtrees: &[Path],
-    found: &[u8],
+    found: bool,
 ) -> Result<Map<String, Value>, NoMemory>
     requires { All (IsSubtree (H.state tree.now)) subtrees.now }
     ensures { IfOk result (λ members. members_view members.entries
-        ≡ or_contained found.now (changes_members (H.state tree.now) (everybody_of asked.now) subtrees.now)) }
+        ≡ or_contained found (changes_members (H.state tree.now) (everybody_of asked.now) subtrees.now)) }
 {
-    match found {
-        [] => Ok(text_alone(alloc, "answer", "contained")?),
-        _ => changes_members(alloc, tree, asked, subtrees),
+    if found {
+        changes_members(alloc, tree, asked, subtrees)
+    } else {
+        Ok(text_alone(alloc, "answer", "contained")?)
     }
 }
 

@@ -12,12 +12,12 @@ pub line_of-requires-clause-exact : goal.line_of-requires-clause-exact
 line_of-requires-clause-exact g c =
     let asked = everybody_of c.args.asked.now in
     subst (λ ms. members_have_float ms ≡ false)
-    (sym (c.in_ok-members.ensures ∙ ap (found_members asked c.args.found.now) c.in_ok-values.ensures))
-    (explained_plain (g.H.Hierarchy.state c.args.tree.now) asked c.args.subtrees.now c.args.found.now).exact
+    (sym (c.in_ok-members.ensures ∙ ap (found_members asked c.args.found) c.in_ok-values.ensures))
+    (explained_plain (g.H.Hierarchy.state c.args.tree.now) asked c.args.subtrees.now c.args.found).exact
 
 pub line_of-requires-clause-within : goal.line_of-requires-clause-within
 line_of-requires-clause-within g c =
     let asked = everybody_of c.args.asked.now in
     subst (λ ms. members_depth ms < max_depth)
-    (sym (c.in_ok-members.ensures ∙ ap (found_members asked c.args.found.now) c.in_ok-values.ensures))
-    (shallow _ 4 (omega arith) (explained_plain (g.H.Hierarchy.state c.args.tree.now) asked c.args.subtrees.now c.args.found.now))
+    (sym (c.in_ok-members.ensures ∙ ap (found_members asked c.args.found) c.in_ok-values.ensures))
+    (shallow _ 4 (omega arith) (explained_plain (g.H.Hierarchy.state c.args.tree.now) asked c.args.subtrees.now c.args.found))
