@@ -85,10 +85,12 @@ module _ (format : Format) {first lines : Reporting} (same : first ≡ lines) (b
       → ReplaysFrom (closed_in format) lines before left old new (Err fault)
   fault_from new Read read = read
   fault_from new fault read =
-      from_replays (closed_in format) lines before left old new read.0 (Err fault) read.1 (fault_closed format lines read.0 old new fault read.2)
+      from_replays (closed_in format) lines before left old new read.0 (Err fault) read.1
+      (fault_closed format lines read.0 old new fault read.2)
 
   pub from_close_fault : (new : Option (List ℕ)) (fault : CliFault) → ReplaysFrom whole first before left old new (Err fault)
-      → (result : Result ℕ CliFault) → IsErrAnd result (λ found. found ≡ fault) → ReplaysFrom (closed_in format) lines before left old new result
+      → (result : Result ℕ CliFault) → IsErrAnd result (λ found. found ≡ fault)
+      → ReplaysFrom (closed_in format) lines before left old new result
   from_close_fault new fault came result is =
       handed_on (ReplaysFrom (closed_in format) lines before left old new) fault result is
       (fault_from new fault (subst (λ report. ReplaysFrom whole report before left old new (Err fault)) same came))
@@ -97,7 +99,8 @@ module _ (format : Format) {first lines : Reporting} (same : first ≡ lines) (b
       → (new : Option (List ℕ)) (result : Result ℕ CliFault) → Reports (closing format course) mid new result
       → ReplaysFrom (closed_in format) lines before left old new result
   from_close_said mid course came new result said =
-      from_replays (closed_in format) lines before left old new came.0 result came.1 (close_said format same came.0 old mid course came.2 new result said)
+      from_replays (closed_in format) lines before left old new came.0 result came.1
+      (close_said format same came.0 old mid course came.2 new result said)
 
 -- a run that has only begun
 start_waits : (protocol : Protocol) (course : Course) (user : Identity) → HasMade 0 course

@@ -22,7 +22,8 @@ module _ (format : Format) (wanted : Wanted) (asked : Everybody) where
       → takes_memory (found_report_in format wanted asked st subtrees lines).ending ≡ true
   of_lines st subtrees lines = refl
 
-  pub everybody_takes : (st : State) (subtrees : List Names) → takes_memory (everybody_said_in format wanted asked st subtrees).ending ≡ true
+  pub everybody_takes : (st : State) (subtrees : List Names)
+      → takes_memory (everybody_said_in format wanted asked st subtrees).ending ≡ true
   everybody_takes st subtrees =
       report_takes (in_call (everybody_found st asked subtrees)) (found_report_in format wanted asked st subtrees) (of_lines st subtrees)
       (call_takes (everybody_found st asked subtrees))

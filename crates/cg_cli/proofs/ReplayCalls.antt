@@ -168,7 +168,8 @@ module _ (format : Format) (vocabulary : Vocabulary) (tree : Reading) (uid : ℕ
         handed_on (Replays (closed_in format) lines ops known known) fault result handed (course_known ops known fault is)
 
     pub course_fault_from : (given known : Option (List ℕ)) (fault : CliFault) → (fault ≢ NoMemory → course_read subtree tree ≡ Err fault)
-        → (result : Result ℕ CliFault) → IsErrAnd result (λ found. found ≡ fault) → ReplaysFrom (closed_in format) lines given given known known result
+        → (result : Result ℕ CliFault) → IsErrAnd result (λ found. found ≡ fault)
+        → ReplaysFrom (closed_in format) lines given given known known result
     course_fault_from given known fault is result handed =
         not_asked format lines given known known result (λ ops. course_fault ops known fault is result handed)
 
@@ -187,7 +188,8 @@ module _ (format : Format) (vocabulary : Vocabulary) (tree : Reading) (uid : ℕ
   user_fault_by ops known fault false (Some user) e h = let never : ⊥ = cc in absurd never
 
   pub user_fault_from : (given known : Option (List ℕ)) (fault : CliFault) → Err fault ≡ user_read uid gids
-      → (result : Result ℕ CliFault) → IsErrAnd result (λ found. found ≡ fault) → ReplaysFrom (closed_in format) lines given given known known result
+      → (result : Result ℕ CliFault) → IsErrAnd result (λ found. found ≡ fault)
+      → ReplaysFrom (closed_in format) lines given given known known result
   user_fault_from given known fault read result handed =
       handed_on (ReplaysFrom (closed_in format) lines given given known known) fault result handed
       (not_asked format lines given known known (Err fault)

@@ -47,15 +47,15 @@ pub said_of_line : (protocol : Protocol) (course : Course) (user : Identity) (do
     → All (λ b. is_newline b ≡ false) line
     → bytes_said protocol course user done (line ++ 10 ∷ rest)
     ≡ report_on (operation_read protocol.vocabulary done line)
-    (λ op. with_front (outcome_in protocol.format op (outcome_of (state_of course) user op)) (bytes_said protocol (on_course course user op) user
-    (done + 1) rest))
+    (λ op. with_front (outcome_in protocol.format op (outcome_of (state_of course) user op))
+    (bytes_said protocol (on_course course user op) user (done + 1) rest))
 unfolding bytes_said replayed
 said_of_line protocol course user done line rest none =
     let more = pieces_of rest in
     ap (replayed protocol course user done) (slice_split_at is_newline line 10 rest none refl ∙ ap (λ ps. line ∷ ps) more.are)
     ∙ ap (λ ps. report_on (operation_read protocol.vocabulary done line)
-    (λ op. with_front (outcome_in protocol.format op (outcome_of (state_of course) user op)) (replayed protocol (on_course course user op) user
-    (done + 1) ps)))
+    (λ op. with_front (outcome_in protocol.format op (outcome_of (state_of course) user op))
+    (replayed protocol (on_course course user op) user (done + 1) ps)))
     (sym more.are)
 
 -- the end of the input

@@ -118,13 +118,14 @@ module _ (at : Standing) (piece : List ℕ) (end : ℕ) where
     all_one_line : All (λ b. is_newline b ≡ false) whole
     all_one_line = All-append (λ b. is_newline b ≡ false) at.line (take end piece) one_line more
 
-    pub fed_answer : Answered at.protocol.format (operation_read at.protocol.vocabulary at.done held) at.course now at.user old new (Ok tt) → (left : List ℕ)
-        → left ≡ []
+    pub fed_answer : Answered at.protocol.format (operation_read at.protocol.vocabulary at.done held) at.course now at.user old new (Ok tt)
+        → (left : List ℕ) → left ≡ []
         → Leads (coming at) (coming (record { protocol = at.protocol; course = now; user = at.user; line = left; done = at.done + 1 }))
         (take (end + 1) piece) old new
     fed_answer answered left none =
         let leads = line_answered all_one_line within (newline within) now old new
-        (subst (λ bytes. Answered at.protocol.format (operation_read at.protocol.vocabulary at.done bytes) at.course now at.user old new (Ok tt)) is answered) in
+        (subst (λ bytes.
+        Answered at.protocol.format (operation_read at.protocol.vocabulary at.done bytes) at.course now at.user old new (Ok tt)) is answered) in
         subst (λ l. Leads (coming at) (coming
         (record { protocol = at.protocol; course = now; user = at.user; line = l; done = at.done + 1 }))
         (take (end + 1) piece) old new)
@@ -137,7 +138,9 @@ module _ (at : Standing) (piece : List ℕ) (end : ℕ) where
     fed_fault then fault answered result handed =
         handed_on (Fed (coming at) then piece old new) fault result handed
         (line_failed all_one_line within (newline within) now old new then fault
-        (subst (λ bytes. Answered at.protocol.format (operation_read at.protocol.vocabulary at.done bytes) at.course now at.user old new (Err fault)) is answered))
+        (subst (λ bytes.
+        Answered at.protocol.format (operation_read at.protocol.vocabulary at.done bytes) at.course now at.user old new (Err fault))
+        is answered))
 
   -- the line is too long
   pub fed_long : All (λ b. is_newline b ≡ false) whole → 8192 < length whole → at.done < 65536 → (rest : List ℕ)

@@ -120,7 +120,8 @@ ReadOn before after had left old new (Err fault) =
 abbrev pub Answered : Format → Result Op CliFault → Course → Course → Identity → Option (List ℕ) → Option (List ℕ) → Result (Unit {0}) CliFault → Type 0
 Answered format read course now user old new (Ok done) =
     (op : Op) × (read ≡ Ok op) × (now ≡ on_course course user op) × Appends old new (outcome_in format op (outcome_of (state_of course) user op))
-Answered format read course now user old new (Err Write) = (op : Op) × (read ≡ Ok op) × AppendsPart old new (outcome_in format op (outcome_of (state_of course) user op))
+Answered format read course now user old new (Err Write) =
+    (op : Op) × (read ≡ Ok op) × AppendsPart old new (outcome_in format op (outcome_of (state_of course) user op))
 Answered format read course now user old new (Err NoMemory) = Keeps old new
 Answered format read course now user old new (Err Read) = ⊥
 Answered format read course now user old new (Err fault) = (read ≡ Err fault) × Keeps old new

@@ -192,7 +192,8 @@ fn with_premises<H: Hierarchy>(
 ) -> Result<Vec<u8>, NoMemory>
     requires { All (IsSubtree (H.state tree.now)) subtrees.now }
     ensures { IfOk result (λ text. text.items
-        ≡ wanted_lines wanted (everybody_of asked.now) (H.state tree.now) subtrees.now found.items ++ premise_lines (everybody_of asked.now)) }
+        ≡ wanted_lines wanted (everybody_of asked.now) (H.state tree.now) subtrees.now found.items
+        ++ premise_lines (everybody_of asked.now)) }
 {
     let mut text = wanted_lines(alloc, tree, wanted, asked, subtrees, found)?;
     let premises = premise_lines(alloc, asked)?.into_bytes();

@@ -95,8 +95,8 @@ pub audited_plain : (st : State) (asked : Everybody) (subtrees : List Names) (fo
     → ArePlain (audited_members st asked subtrees found) 6
 audited_plain st asked subtrees found =
     found_members_plain asked found (flat_map (subtree_audited st asked) subtrees) 5 (omega arith)
-    (many_lists (subtree_audited st asked) 5 (λ subtree. headed_plain subtree (found_values st asked subtree) (found_plain st asked subtree))
-    subtrees)
+    (many_lists (subtree_audited st asked) 5
+    (λ subtree. headed_plain subtree (found_values st asked subtree) (found_plain st asked subtree)) subtrees)
 
 -- ---- whom each guarded entry lets in
 

@@ -8,6 +8,7 @@ returns g c =
     let asked = c.ask_named.ensures.report in (
       asked.0,
       asked.1,
-      everybody_is_said c.args.format c.args.wanted (everybody_of c.args.asked.now) asked.0 (map (λ subtree. subtree.now) c.args.subtrees.now)
+      everybody_is_said c.args.format c.args.wanted (everybody_of c.args.asked.now) asked.0
+          (map (λ subtree. subtree.now) c.args.subtrees.now)
           (g.W.Write.contents c.args.out.now) (g.W.Write.contents c.ask_named.new.out) c.ask_named.result asked.2,
     )

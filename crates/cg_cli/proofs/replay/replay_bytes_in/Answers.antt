@@ -21,5 +21,5 @@ pub returns-clause-replays : goal.returns-clause-replays
 returns-clause-replays g c = on_text c.args.tree.now (λ read is.
     lines_are c.args.format (vocabulary_in c.args.tree.now) read c.args.user.uid c.args.user.gids.now
     (option_map (λ text. text.now) c.args.subtree) c.in_ok-user.user c.in_ok-user.ensures _ (c.in_ok-vocabulary.ensures.read read is)
-    (λ lines. Replays (closed_in c.args.format) lines c.args.ops.now (g.W.Write.contents c.args.out.now) (g.W.Write.contents c.slice_closed.new.out)
-    c.slice_closed.result) (rw c.in_ok-vocabulary.ensures.vocabulary at c.slice_closed.ensures))
+    (λ lines. Replays (closed_in c.args.format) lines c.args.ops.now (g.W.Write.contents c.args.out.now)
+    (g.W.Write.contents c.slice_closed.new.out) c.slice_closed.result) (rw c.in_ok-vocabulary.ensures.vocabulary at c.slice_closed.ensures))

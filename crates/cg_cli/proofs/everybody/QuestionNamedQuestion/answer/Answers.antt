@@ -14,7 +14,8 @@ returns-in_err-said g c =
     let wanted = c.args.self.now.wanted in
     let asked = everybody_of c.args.self.now.asked.now in
     let subtrees = c.args.subtrees.now in
-    subtree_fault (everybody_said_in format wanted asked st subtrees) (everybody_takes format wanted asked st subtrees) c.in_err-said.field-0.0
+    subtree_fault (everybody_said_in format wanted asked st subtrees) (everybody_takes format wanted asked st subtrees)
+    c.in_err-said.field-0.0
     (λ other. ap (λ found. report_on (in_call found) (found_report_in format wanted asked st subtrees)) (c.in_err-said.ensures other))
     (g.W.Write.contents c.args.out.now) c.from_residual.result c.from_residual.ensures.1
 

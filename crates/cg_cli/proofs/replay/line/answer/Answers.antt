@@ -25,8 +25,8 @@ told_apart : ◌≡◌ {A = Result Op LineFault} (Err BadWord) (Err TooLong) →
 told_apart same = cc
 
 -- a line that gives no operation
-faulty : (format : Format) (vocabulary : Vocabulary) (done : ℕ) (line : List ℕ) (course : Course) (user : Identity) (known : Option (List ℕ))
-    (fault : LineFault) → done < 65536
+faulty : (format : Format) (vocabulary : Vocabulary) (done : ℕ) (line : List ℕ) (course : Course) (user : Identity)
+    (known : Option (List ℕ)) (fault : LineFault) → done < 65536
     → (◌≡◌ {A = Result Op LineFault} (Err fault) (Err TooLong)) ↔ (8192 < length line)
     → (◌≡◌ {A = Result Op LineFault} (Err fault) (Err BadWord) → (op : Op) → IsInRange vocabulary op → line ≢ spelling op)
     → (◌≡◌ {A = Result Op LineFault} (Err fault) (Err Cut) → ⊥)
@@ -44,7 +44,8 @@ pub returns-in-Err : goal.returns-in-Err
 returns-in-Err g c =
     let told = c.in-Err.ensures in
     rw c.of_line.ensures
-    (faulty c.args.protocol.format c.args.protocol.vocabulary c.args.done c.args.line.now (g.C.OnCourse.course c.args.course.now) c.args.user.now
+    (faulty c.args.protocol.format c.args.protocol.vocabulary c.args.done c.args.line.now (g.C.OnCourse.course c.args.course.now)
+    c.args.user.now
     (g.W.Write.contents c.args.out.now)
     c.in-Err.fault
     c.requires.few told.too_long told.bad_word told.not_cut)
@@ -53,8 +54,8 @@ pub outcome_said-requires : goal.outcome_said-requires
 outcome_said-requires g c = outcome_shown _ _ _ _ c.in_ok-outcome.ensures.outcome
 
 -- what was written is the line of the outcome
-outcome_line : (format : Format) (st : State) (user : Identity) (op : Op) (outcome : Outcome) (items text : List ℕ) → outcome ≡ outcome_of st user op
-    → items ≡ outcome_in format op outcome → text ≡ items
+outcome_line : (format : Format) (st : State) (user : Identity) (op : Op) (outcome : Outcome) (items text : List ℕ)
+    → outcome ≡ outcome_of st user op → items ≡ outcome_in format op outcome → text ≡ items
     → text ≡ outcome_in format op (outcome_of st user op)
 outcome_line format st user op outcome items text is said same = same ∙ said ∙ ap (outcome_in format op) is
 
@@ -63,7 +64,8 @@ returns-in_err-write_whole g c =
     let op = c.in-Ok.op in
     let st = state_of (g.C.OnCourse.course c.args.course.now) in
     let told = c.in-Ok.ensures.ok in
-    let line = outcome_line c.args.protocol.format st c.args.user.now op c.in_ok-outcome.outcome c.in_ok-text.text.items c.as_slice.result.now
+    let line = outcome_line c.args.protocol.format st c.args.user.now op c.in_ok-outcome.outcome c.in_ok-text.text.items
+    c.as_slice.result.now
     (outcome_is st c.args.user.now op c.in_ok-outcome.outcome c.in_ok-outcome.ensures.outcome) c.in_ok-text.ensures c.as_slice.ensures.value
     in
     let p = err_from_is_err_and c.from_residual-in_err-write_whole.result c.from_residual-in_err-write_whole.ensures.1 in
@@ -83,7 +85,8 @@ returns g c =
     let told = c.in-Ok.ensures.ok in
     let made = c.in_ok-outcome.ensures in
     let line =
-    outcome_line c.args.protocol.format st user op outcome c.in_ok-text.text.items c.as_slice.result.now (outcome_is st user op outcome made.outcome)
+    outcome_line c.args.protocol.format st user op outcome c.in_ok-text.text.items c.as_slice.result.now
+    (outcome_is st user op outcome made.outcome)
     c.in_ok-text.ensures c.as_slice.ensures.value in (
       op,
       operation_read_ok c.args.protocol.vocabulary c.args.done c.args.line.now op c.requires.few told.1 told.0 told.2,

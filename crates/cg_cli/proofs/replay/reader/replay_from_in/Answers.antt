@@ -8,7 +8,8 @@ use Rattle.cg_format.specs.Readings.{vocabulary_in}
 
 pub returns-in_err-user-clause-replays : goal.returns-in_err-user-clause-replays
 returns-in_err-user-clause-replays g c = on_text c.args.tree.now (λ read is.
-    user_fault_from c.args.format (vocabulary_in c.args.tree.now) read c.args.user.uid c.args.user.gids.now (option_map (λ text. text.now) c.args.subtree)
+    user_fault_from c.args.format (vocabulary_in c.args.tree.now) read c.args.user.uid c.args.user.gids.now
+    (option_map (λ text. text.now) c.args.subtree)
     (g.R.Read.remaining c.args.ops.now) (g.W.Write.contents c.args.out.now)
     c.in_err-user.field-0.0 c.in_err-user.ensures c.from_residual.result c.from_residual.ensures.1)
 
