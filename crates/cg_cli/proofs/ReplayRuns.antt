@@ -125,7 +125,8 @@ module _ (at : Standing) (piece : List ℕ) (end : ℕ) where
     fed_answer answered left none =
         let leads = line_answered all_one_line within (newline within) now old new
         (subst (λ bytes.
-        Answered at.protocol.format (operation_read at.protocol.vocabulary at.done bytes) at.course now at.user old new (Ok tt)) is answered) in
+        Answered at.protocol.format (operation_read at.protocol.vocabulary at.done bytes) at.course now at.user old new (Ok tt))
+        is answered) in
         subst (λ l. Leads (coming at) (coming
         (record { protocol = at.protocol; course = now; user = at.user; line = l; done = at.done + 1 }))
         (take (end + 1) piece) old new)
