@@ -106,11 +106,7 @@ fn push_stand<'a>(
 }
 
 /// The lines of entries behind a text.
-fn push_stands(
-    alloc: Global,
-    text: &mut Vec<u8>,
-    stands: &[Stand<'_>],
-) -> Result<(), NoMemory>
+fn push_stands(alloc: Global, text: &mut Vec<u8>, stands: &[Stand<'_>]) -> Result<(), NoMemory>
     ensures { OnOk result (text.new.items ≡ text.old.items ++ flat_map (λ stand. let_lines (stand_let stand)) stands.now) }
 {
     for stand in stands {

@@ -28,16 +28,17 @@ const REPLAYED: [(&str, &str, u8); 2] = [
 
 #[test]
 fn a_replay_is_an_object_a_line(rt: HostRuntime) -> Result<(), Fail> {
-    let tree = delegation_with(rt.alloc(), &[MEMORY_MAX_OWNED])?;
+    let alloc = rt.alloc();
+    let tree = delegation_with(alloc, &[MEMORY_MAX_OWNED])?;
     let tree = tree.as_bytes();
     for (ops, report, status) in REPLAYED {
-        let mut out = Vec::new(rt.alloc());
-        let ended = replay_json_bytes(rt.alloc(), tree, USER, Some("/c0"), ops.as_bytes(), &mut out);
+        let mut out = Vec::new(alloc);
+        let ended = replay_json_bytes(alloc, tree, USER, Some("/c0"), ops.as_bytes(), &mut out);
         assert_eq!(rt; ended, Ok(status));
         assert_eq!(rt; out.as_slice(), report.as_bytes());
-        let mut out = Vec::new(rt.alloc());
+        let mut out = Vec::new(alloc);
         let mut pieces = Pieces::new(ops.as_bytes(), 7);
-        let ended = replay_json_from(rt.alloc(), tree, USER, Some("/c0"), &mut pieces, &mut out);
+        let ended = replay_json_from(alloc, tree, USER, Some("/c0"), &mut pieces, &mut out);
         assert_eq!(rt; ended, Ok(status));
         assert_eq!(rt; out.as_slice(), report.as_bytes());
     }
