@@ -1,11 +1,12 @@
 -- The objects on everybody have no float, and nest less deep than what is read may.
-use Rattle.std.proofs.Common.{ℕ, suc, ◌≤◌, Bool, true, false, cond, List, [], ◌∷◌, ◌++◌, map, codes, Option, Some, None, arith}
+use Rattle.std.proofs.Common.{ℕ, suc, ◌≤◌, Bool, true, false, ◌&&◌, cond, List, [], ◌∷◌, ◌++◌, map, codes, Option, Some, None, arith}
 use Rattle.std.specs.List.{flat_map}
 use Rattle.std.specs.Option.{option_map}
 use Rattle.cg_cgroup.specs.Paths.{Names, path_text, same_path}
 use Rattle.cg_model.specs.Clauses.{present}
 use Rattle.cg_model.specs.Guards.{Guarded, guarded_entries, standing}
 use Rattle.cg_model.specs.GuardNames.{guard_name}
+use Rattle.cg_model.specs.Limits.{fits_descendants, fits_depth}
 use Rattle.cg_model.specs.Once.{once}
 use Rattle.cg_model.specs.States.{State, row_at}
 use Rattle.cg_model.specs.declared.guard.Guard.TheVariants.{AlreadyOver}
@@ -85,7 +86,8 @@ over_plain subtree false = (object_plain _ 2 (guard_plain (guard_name AlreadyOve
 found_plain : (st : State) (asked : Everybody) (subtree : Names) → AllArePlain 3 (found_values st asked subtree)
 found_plain st asked subtree =
     one_list 3 (map (entrance_value asked) (entrances st asked subtree)) (excess_values st subtree)
-    (each_plain (entrance_value asked) 3 (entrance_plain asked) (entrances st asked subtree)) (over_plain subtree _)
+    (each_plain (entrance_value asked) 3 (entrance_plain asked) (entrances st asked subtree))
+    (over_plain subtree (fits_descendants st subtree && fits_depth st subtree))
 
 headed_plain : (subtree : Names) (values : List Data) → AllArePlain 3 values → AllArePlain 5 (headed_values subtree values)
 headed_plain subtree [] all = tt

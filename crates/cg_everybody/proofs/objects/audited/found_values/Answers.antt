@@ -15,6 +15,6 @@ returns-clause-values g c =
     ∙ ap (λ values. values ++ excess_values st subtree)
     (c.in_ok-list.ensures
     ∙ ap (map (λ (each : Entrance). entrance_value asked (entrance_spot each))) c.as_slice.ensures.value
-    ∙ mapped_twice (entrance_value asked) entrance_spot c.next.new.found.items
+    ∙ mapped_twice (entrance_value asked) entrance_spot _
     ∙ ap (map (entrance_value asked))
     (c.in_ok-next.ensures.found ∙ ap (λ l. map entrance_spot l ++ entrances st asked subtree) c.new-found.ensures.items))
