@@ -3,6 +3,6 @@ pub mod Taken
 pub mod Running
 pub mod Advising
 pub mod Gathering
-mod Founding
+pub mod Founding
 pub mod Written
 pub mod Thinning

@@ -110,7 +110,7 @@ fn overs_of<'a, H: Hierarchy>(
 }
 
 /// The subtree, where it is over its limits.
-fn over_of<'a, H: Hierarchy>(tree: &H, subtree: &'a Path) -> Option<Over<'a>>
+pub fn over_of<'a, H: Hierarchy>(tree: &H, subtree: &'a Path) -> Option<Over<'a>>
     requires { has_row (H.state tree.now) subtree.now ≡ true }
     ensures { map over_raised (option_to_list result) ≡ raised_of (H.state tree.now) subtree.now }
 {
@@ -142,7 +142,7 @@ fn excess(fits: bool, there: u64) -> Option<u64>
 }
 
 /// One that is over its limits, where there is one, behind others.
-fn push_over<'a>(overs: &mut Vec<Over<'a>>, over: Option<Over<'a>>) -> Result<(), NoMemory>
+pub fn push_over<'a>(overs: &mut Vec<Over<'a>>, over: Option<Over<'a>>) -> Result<(), NoMemory>
     ensures { OnOk result (map over_raised overs.new.items
         ≡ map over_raised overs.old.items ++ map over_raised (option_to_list over.entry)) }
 {

@@ -8,6 +8,7 @@ pub mod Strangers
 pub mod Known
 pub mod May
 pub mod Missing
+pub mod ReplayFormats
 pub mod Courses
 pub mod Replays
 pub mod Replaying

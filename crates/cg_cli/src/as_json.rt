@@ -7,5 +7,7 @@ pub mod audit_all;
 pub mod audit_pairs;
 pub mod audit_settle;
 pub mod check;
+pub mod everybody;
 pub mod explain;
 pub mod may;
+pub mod replay;

@@ -6,4 +6,4 @@ mod Untold
 mod Told
 mod Meeting
 mod Placing
-mod PlainObjects
+pub mod PlainObjects

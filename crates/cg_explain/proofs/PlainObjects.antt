@@ -1,5 +1,5 @@
 -- The object of what is told of a pair has no float, and nests less deep than what is read may.
-use Rattle.std.proofs.Common.{◌≡◌, ℕ, suc, ◌≤◌, Bool, true, false, cond, List, [], ◌∷◌, ◌++◌, map, codes, Option, Some, None, refl, arith}
+use Rattle.std.proofs.Common.{◌≡◌, ℕ, suc, Bool, true, false, cond, List, [], ◌∷◌, ◌++◌, map, codes, Option, Some, None, refl, arith}
 use Rattle.std.specs.List.{AllByRecursion}
 use Rattle.std.specs.Option.{option_map}
 use Rattle.std.proofs.ByRecursion.{All-append}
@@ -21,7 +21,7 @@ use Rattle.serde_json.specs.Data.{Data, boolean, array, object, Members, no_memb
 use Rattle.serde_json.specs.View.{items_of}
 use Rattle.cg_json.specs.Entries.{at_guard, entry_members}
 use Rattle.cg_json.specs.Operations.{limit_value}
-use Rattle.cg_json.proofs.Plain.{IsPlain, ArePlain, both, put_plain, text_more, number_more, none_plain, object_plain, limit_plain, failed_plain, pair_plain}
+use Rattle.cg_json.proofs.Plain.{IsPlain, ArePlain, both, put_plain, text_more, number_more, none_plain, object_plain, limit_plain, failed_plain, pair_plain, deeper}
 use Rattle.cg_json.proofs.PlainAdvice.{guard_plain, at_plain}
 use Rattle.cg_explain.specs.FirstRow.{first_row}
 use Rattle.cg_explain.specs.Counted.{is_in_limit, counts_of}
@@ -34,17 +34,17 @@ use Rattle.cg_explain.specs.declared.first.Told.{Told}
 use Rattle.cg_explain.specs.declared.second.Asked.{Asked}
 use Rattle.cg_explain.specs.declared.second.Asked.TheVariants.{Stays, Control, Files, Shut}
 
-abbrev AllArePlain : ℕ → List Data → Type 0
+abbrev pub AllArePlain : ℕ → List Data → Type 0
 AllArePlain n values = AllByRecursion (λ value. IsPlain value n) values
 
-all_plain : (n : ℕ) (values : List Data) → AllArePlain n values → IsPlain (array (items_of values)) (suc n)
+pub all_plain : (n : ℕ) (values : List Data) → AllArePlain n values → IsPlain (array (items_of values)) (suc n)
 all_plain n [] all = record { exact = refl; within = omega arith }
 all_plain n (value ∷ values) all =
     let rest = all_plain n values all.1 in
     let first = all.0 in
     record { exact = both _ _ first.exact rest.exact; within = omega (arith, first.within, rest.within) }
 
-each_plain : {A : Type 0} (value : A → Data) (n : ℕ) → ((x : A) → IsPlain (value x) n) → (xs : List A) → AllArePlain n (map value xs)
+pub each_plain : {A : Type 0} (value : A → Data) (n : ℕ) → ((x : A) → IsPlain (value x) n) → (xs : List A) → AllArePlain n (map value xs)
 each_plain value n every [] = tt
 each_plain value n every (x ∷ xs) = (every x, each_plain value n every xs)
 
@@ -55,7 +55,7 @@ class_more : (by : Option Class) (ms : Members) (n : ℕ) → ArePlain ms n → 
 class_more None ms n p = holds_more true ms n p
 class_more (Some class) ms n p = holds_more false _ n (text_more (codes "class") (class_name class) ms n p)
 
-told_plain : (subtree : Names) (told : Told) → IsPlain (told_value subtree told) 1
+pub told_plain : (subtree : Names) (told : Told) → IsPlain (told_value subtree told) 1
 told_plain subtree told =
     object_plain _ 0 (class_more told.by (entry_members subtree told.at) 0 (at_plain subtree told.at 0))
 
@@ -83,7 +83,7 @@ second_plain : (subtree : Names) (guarded : Bool) (asked : List Asked) → AllAr
 second_plain subtree true asked = tt
 second_plain subtree false asked = each_plain (asked_value subtree) 1 (asked_plain subtree) asked
 
-counts_plain : (subtree : Names) (counts : Option Counts) → AllArePlain 1 (counted_values subtree counts)
+pub counts_plain : (subtree : Names) (counts : Option Counts) → AllArePlain 1 (counted_values subtree counts)
 counts_plain subtree None = tt
 counts_plain subtree (Some counts) =
     (counted_plain subtree MaxDescendants counts.descendants, (counted_plain subtree MaxDepth counts.depth, tt))
@@ -96,9 +96,6 @@ guards_plain st user subtree =
     (All-append _ first second (each_plain (told_value subtree) 1 (told_plain subtree) (first_row st user subtree))
     (second_plain subtree (is_guarded st subtree user) (second_row_asked st (user ∷ []) subtree)))
     (counts_plain subtree (option_map (counts_of st subtree) (row_at st subtree))))
-
-deeper : (value : Data) (n m : ℕ) → n ≤ m → IsPlain value n → IsPlain value m
-deeper value n m more p = record { exact = p.exact; within = omega (arith, more, p.within) }
 
 which_plain : (subtree : Names) (found : Answer) → ArePlain (which_members subtree found) 3
 which_plain subtree Contained = text_more (codes "answer") (codes "contained") no_members 3 (none_plain 3)

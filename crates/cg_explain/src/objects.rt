@@ -128,7 +128,7 @@ fn push_told(
 }
 
 /// The object of an entry of the first row.
-fn told_value(alloc: Global, subtree: &Path, told: &Told) -> Result<Value, AllocError>
+pub fn told_value(alloc: Global, subtree: &Path, told: &Told) -> Result<Value, AllocError>
     requires { IsShown subtree.now told.now.at }
     ensures { IfOk result (λ value. view value ≡ told_value subtree.now told.now) }
 {
@@ -251,7 +251,7 @@ fn by_members(
 }
 
 /// The objects of the two limits, where the subtree is there.
-fn push_limits<H: Hierarchy>(
+pub fn push_limits<H: Hierarchy>(
     list: &mut Vec<Value>,
     alloc: Global,
     tree: &H,

@@ -182,10 +182,10 @@ answer_plain subtree (Escapes ops) =
     put_plain (codes "operations") (ops_value ops) _ 3 (ops_plain ops) (answer_word_plain (codes "escapes") 3)
 answer_plain subtree (Unsettled failed) = failed_plain subtree failed
 
-numbers_plain : (numbers : List ℕ) → IsPlain (numbers_value numbers) 1
+pub numbers_plain : (numbers : List ℕ) → IsPlain (numbers_value numbers) 1
 numbers_plain numbers = list_plain (λ (each : ℕ). number (unsigned each)) 0 numbers (λ (each : ℕ). number_plain each 0)
 
-deeper : (value : Data) (n m : ℕ) → n ≤ m → IsPlain value n → IsPlain value m
+pub deeper : (value : Data) (n m : ℕ) → n ≤ m → IsPlain value n → IsPlain value m
 deeper value n m more p = record { exact = p.exact; within = omega (arith, more, p.within) }
 
 pub pair_plain : (user : Identity) (subtree : Names) (ms : Members) → ArePlain ms 3 → ArePlain (put_pair user subtree ms) 3

@@ -41,7 +41,7 @@ changes_plain : (subtree : Names) (mends : List Mend) → IsPlain (changes_value
 changes_plain subtree mends =
     list_plain (mend_value subtree) 1 mends (λ mend. object_plain (mend_members subtree mend) 0 (mend_plain subtree mend 0))
 
-classes_plain : (ways : Ways) → IsPlain (classes_value ways) 2
+pub classes_plain : (ways : Ways) → IsPlain (classes_value ways) 2
 classes_plain ways =
     list_plain (λ class. string (class_name class)) 1 (filter (has_way ways) (Owner ∷ Group ∷ Others ∷ []))
     (λ class. text_plain (class_name class) 1)

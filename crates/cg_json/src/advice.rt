@@ -34,7 +34,8 @@ pub fn failing_json(
     line_of(alloc, members)
 }
 
-fn failing_members(
+/// The members of what is to be changed.
+pub fn failing_members(
     alloc: Global,
     stands: &[Stand<'_>],
     overs: &[Over<'_>],
