@@ -21,6 +21,7 @@ TABLES = (answers.migrations, answers.of_one_subtree, answers.explained, answers
           answers.named_by_lines, answers.advices)
 KNOWN = frozenset({*commands.OPTIONS, "audit --all", "audit --pairs", "audit --settle", "audit --everybody", "audit --subtrees",
                    "advise --pairs", "advise --settle", "explain --pairs", format_4.FORMAT_4}) - {"upgrade"}
+JSON = "--format", "json"
 # by hand also many more: python3 tests/model/tests/as_json_test.py 20000
 CASES = 700
 SEED = "as json"
@@ -109,7 +110,7 @@ class AsJsonTest(unittest.TestCase):
     def test_from_what_is_answered_the_lines_follow(self):
         for words, stdin, files, lines in self.calls:
             said, *ended = commands.respond(words, stdin, files)
-            texts, *ended_too = as_json.respond(words, stdin, files)
+            texts, *ended_too = as_json.respond([*words, *JSON], stdin, files)
             with self.subTest(words=words):
                 self.assertEqual(ended_too, ended)
                 if said and isinstance(said[0], commands.Open):
@@ -129,7 +130,7 @@ class AsJsonTest(unittest.TestCase):
 
     def test_a_pair_that_is_said_alone_has_its_groups(self):
         group = ["audit", "--tree", f"{EXAMPLES}/delegation-ancestor-group.toml", "--uid", "1000:5,50", "--subtree", "/c0"]
-        texts, status, fault = as_json.respond(group, b"", {group[2]: content(group[2])})
+        texts, status, fault = as_json.respond([*group, *JSON], b"", {group[2]: content(group[2])})
         self.assertEqual((json.loads(texts[0])["gids"], len(texts), status, fault), ([5, 50], 1, 1, ""))
 
     def test_they_are_as_the_schema_says(self):
