@@ -304,10 +304,17 @@ def spelled():
     yield Case(may, 3, fault="fault: path")
 
 
+def has_format(program):
+    """Whether a program has the option; where it doesn't, rows of that wait."""
+    has = FORMAT.encode() in call(program, ["check", "--help"]).output
+    if not has:
+        print(f"rows of {FORMAT} wait for a program that has it")
+    return has
+
+
 def rows(program):
     """All rows, of a program that has the option."""
-    if FORMAT.encode() not in call(program, ["check", "--help"]).output:
-        print(f"answers: rows of {FORMAT} wait for a program that has it")
+    if not has_format(program):
         return
     for table in moves, of_one_subtree, audits, advices, explanations, everybody, replays, faults, spelled:
         yield from table()
