@@ -306,15 +306,13 @@ def spelled():
 
 def has_format(program):
     """Whether a program has the option; where it doesn't, rows of that wait."""
-    has = FORMAT.encode() in call(program, ["check", "--help"]).output
-    if not has:
-        print(f"rows of {FORMAT} wait for a program that has it")
-    return has
+    return FORMAT.encode() in call(program, ["check", "--help"]).output
 
 
 def rows(program):
     """All rows, of a program that has the option."""
     if not has_format(program):
+        print(f"answers: rows of {FORMAT} wait for a program that has it")
         return
     for table in moves, of_one_subtree, audits, advices, explanations, everybody, replays, faults, spelled:
         yield from table()
