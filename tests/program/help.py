@@ -526,7 +526,7 @@ def operations_of_format_4():
 
 
 def formats():
-    """How an answer is to be written, as it is mistyped, and what is said beside an answer and below a fault that is JSON or would be."""
+    """How an answer is to be written, as it is mistyped, and what is said below a fault where JSON is asked for."""
     yield Row([*CHECK, FORMAT], "usage", ["a value is required for '--format <FORMAT>'"])
     yield Row([*CHECK, *JSON, *JSON], "usage", ["--format <FORMAT>", "multiple times"])
     yield Row(["check", "--fromat", "json", *CHECK[1:]], "usage", ["'--fromat'", "--format"])
@@ -536,6 +536,10 @@ def formats():
     yield Row(["check", *JSON, "--uid", "1000", "--subtree", "/c9"], "subtree missing", ["'/c9' has to be the path of a row of the tree; the nearest is '/c0'"])
     yield Row(["check", *JSON, "--uid", "0", "--subtree", "/c0"], "uid", ["root"])
     yield Row([*REPLAY, *JSON], "line 1 bad-word", ["mvoe 10 /c0", "'mvoe': write move"], ops="mvoe 10 /c0\n")
+
+
+def beside_json():
+    """What is said beside an answer that is JSON."""
     for words in (CHECK, *OF_TREE, EVERYBODY, MAY, REPLAY):
         yield Row([*words, *JSON], None, ["mode 400 is 0o620"], edited("mode = 0o644", "mode = 400"))
         yield Row([*words, *JSON], None)
@@ -548,7 +552,7 @@ def formats():
 
 def rows(program):
     if program is None or has_format(program):
-        yield from formats()
+        yield from (*formats(), *beside_json())
     yield from (*command_lines(), *arguments(), *trees(), *strangers(), *modes(), *missing_paths(), *terminals(), *slips(), *pairs(), *subtrees(), *operations())
 
 
