@@ -77,7 +77,7 @@ def of_tables():
 
 def of_rows():
     """The same of the rows that are asked as JSON."""
-    for case in rows.TABLES["as JSON"]():
+    for case in rows.TABLES[rows.JSON_TABLE]():
         if as_json.asks_for_json(case.words):
             words = programs.as_lines(case.words)
             lines, status, _ = commands.respond(words, case.stdin, {**case.files, "folder": False})

@@ -365,6 +365,7 @@ def written():
 
 # As JSON
 
+JSON_TABLE = "as JSON"
 # of which tables rows are asked as JSON, and each how manieth
 ASKED_AS_JSON = {"memory.max": 2, "cpu.weight": 5, "io.max": 2, "cgroup.freeze": 5, "two tries": 15, "at the root": 3, "theirs": 1, "classes": 2,
                  "everybody": 5, "left out": 7, "changed and told": 7, "lines of subtrees": 5}
@@ -469,4 +470,4 @@ def bounds():
 
 TABLES = {**{file: functools.partial(limit_file, file) for file in LIMIT_FILES}, "bounds": bounds, "names": names, "two tries": two_tries,
           "at the root": at_the_root, "theirs": theirs, "classes": classes, "everybody": everybody, "left out": left_out,
-          "changed and told": changed_and_told, "lines of subtrees": lines_of_subtrees, "written": written, "as JSON": as_json}
+          "changed and told": changed_and_told, "lines of subtrees": lines_of_subtrees, "written": written, JSON_TABLE: as_json}
