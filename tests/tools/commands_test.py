@@ -63,7 +63,9 @@ class CommandsTest(unittest.TestCase):
 
     def test_second_model(self):
         self.assertEqual(commands.OPTIONS.keys(), self.commands)
-        self.assertEqual({name: set(options) for name, options in commands.OPTIONS.items()}, self.options)
+        # a released program may be from before that option
+        later = set() if json_rows.has_format(PROGRAM) else {"--format"}
+        self.assertEqual({name: set(options) - later for name, options in commands.OPTIONS.items()}, self.options)
         self.assertEqual(commands.REPORTS.keys(), self.commands)
         self.assertEqual({it.split()[0] for it in cases.MAKERS}, self.commands)
 
