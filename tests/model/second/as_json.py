@@ -22,18 +22,35 @@ NUMBERS = "pid", "child", "after", "count", "uid", "gid"
 
 
 def respond(words, stdin, files):
+    """What `commands.respond` gives, with JSON in place of the lines where the words ask for that."""
+    return in_json(words, stdin, files) if asks_for_json(words) else commands.respond(words, stdin, files)
+
+
+def asks_for_json(words):
+    try:
+        return commands.Call(words).format == commands.JSON
+    except commands.Fault:
+        return False
+
+
+def in_json(words, stdin, files):
     """What `commands.respond` gives, with JSON in place of the lines."""
     if is_first_alone(words):
-        return of_first_pair(*respond([*words, "--all"], stdin, files))
+        return of_first_pair(*in_json([*words, "--all"], stdin, files))
     lines, status, fault = commands.respond(words, stdin, files)
     if lines and isinstance(lines[0], commands.Open):
         return [commands.Open(lambda said, given: is_right(words, lines[0], said, given))], status, fault
     return [text_of_object(each) for each in objects_of(words, lines)], status, fault
 
 
+def names_first_alone(words):
+    """Whether an audit says its first pair alone, which its lines name by the uid alone."""
+    return words[:1] == ["audit"] and not from_json.options_of(words) & {"--all", "--pairs", "--everybody"}
+
+
 def is_first_alone(words):
-    """Whether an audit says its first pair alone, which it names by the uid alone, and of which no more than one list may be right."""
-    return words[:1] == ["audit"] and not {word.partition("=")[0] for word in words} & {"--all", "--pairs", "--everybody", "--settle"}
+    """Whether that is so where no more than one list may be right."""
+    return names_first_alone(words) and "--settle" not in words
 
 
 def of_first_pair(texts, status, fault):
@@ -44,8 +61,13 @@ def of_first_pair(texts, status, fault):
 
 def is_right(words, of_lines, said, status):
     """Whether texts are those of lines of which more than one may be right."""
-    objects = [json.loads(text) for text in said]
-    return said == [text_of_object(each) for each in objects] and of_lines.is_right(from_json.lines_of(words, objects), status)
+    try:
+        objects = [json.loads(text) for text in said]
+        lines = from_json.lines_of([*words, "--all"] if names_first_alone(words) else words, objects)
+    except (ValueError, KeyError, TypeError, AttributeError):
+        return False
+    gids = {"gids": True} if names_first_alone(words) else {}
+    return said == [text_of_object(each) for each in objects] and of_lines.is_right(lines, status, **gids)
 
 
 def text_of_object(value):

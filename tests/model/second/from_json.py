@@ -11,9 +11,14 @@ def lines_of(words, objects):
     if "--everybody" in words:
         of_one = {"audit": everybody_lines, "advise": advice_to_everybody_lines, "explain": explained_to_everybody_lines}[words[0]]
     elif words[0] == "audit":
-        is_listed = bool({word.partition("=")[0] for word in words} & {"--all", "--pairs"})
+        is_listed = bool(options_of(words) & {"--all", "--pairs"})
         of_one = lambda each: audited_lines(each, is_listed)
     return [line for each in objects for line in of_one(each)]
+
+
+def options_of(words):
+    """Each word that may be an option, without what stands behind its equals sign."""
+    return {word.partition("=")[0] for word in words}
 
 
 def spelled(*words):
