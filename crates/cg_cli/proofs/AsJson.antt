@@ -35,7 +35,7 @@ use Rattle.cg_cli.specs.Containment.{in_call, answer_report, subtree_report, che
 use Rattle.cg_cli.specs.May.{move_report, tree_read, may_report}
 use Rattle.cg_cli.specs.Once.{same_user}
 use Rattle.cg_cli.specs.Pairs.{pair_given}
-use Rattle.cg_cli.specs.Reports.{Report, Reports, fault_report, report_on, takes_memory}
+use Rattle.cg_cli.specs.Reports.{Said, Report, Reports, fault_report, report_on, takes_memory}
 use Rattle.cg_cli.specs.SettledAdvice.{are_held, settled_report, advise_settled_report}
 use Rattle.cg_cli.specs.Settled.{IsSettledFrom, IsSettled, IsSettledFault}
 use Rattle.cg_cli.specs.Settling.{SaysOn}
@@ -206,7 +206,7 @@ advised_said tree pairs old new result said =
 
 -- ---- they end as those of lines
 
-same_ending : {A : Type 0} (read : Result A CliFault) (one other : A → Report) → ((x : A) → (one x).ending ≡ (other x).ending)
+pub same_ending : {A B : Type 0} (read : Result A CliFault) (one other : A → Said B) → ((x : A) → (one x).ending ≡ (other x).ending)
     → (report_on read one).ending ≡ (report_on read other).ending
 same_ending (Ok x) one other same = same x
 same_ending (Err fault) one other same = refl

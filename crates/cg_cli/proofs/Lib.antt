@@ -38,3 +38,4 @@ pub mod Knowing
 pub mod Auditing
 pub mod ListedRows
 pub mod AsJson
+pub mod FormatEndings

@@ -71,7 +71,7 @@ pub fn everybody_bytes<W: Write>(
 }
 
 /// The same, written as a format says.
-pub(crate) fn everybody_bytes_in<W: Write>(
+pub fn everybody_bytes_in<W: Write>(
     alloc: Global,
     format: Format,
     tree: &[u8],

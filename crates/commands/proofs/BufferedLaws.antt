@@ -15,14 +15,15 @@ use Rattle.cg_format.specs.Readings.{Reading, vocabulary_in}
 use Rattle.cg_cli.specs.AllPairs.{Listing, all_report, ReportsPairsBy}
 use Rattle.cg_cli.specs.Asking.{CallEnding}
 use Rattle.cg_cli.specs.EachPair.{audit_pairs_report, explain_pairs_asked}
-use Rattle.cg_cli.specs.Everybody.{everybody_report}
+use Rattle.cg_cli.specs.Everybody.{everybody_report_in}
 use Rattle.cg_cli.specs.Explaining.{Writing, TellsPairsBy, ReportsToldBy}
 use Rattle.cg_cli.specs.Formats.{told_in, listing_in, first_in}
 use Rattle.cg_model.specs.States.{State}
 use Rattle.cg_model.specs.Mends.{Pair}
 use Rattle.cg_cli.specs.Upgrades.{Upgrades}
 use Rattle.streams.specs.Written.{AppendsPart}
-use Rattle.cg_cli.specs.Replays.{closed}
+use Rattle.cg_cli.specs.Replays.{closed_in}
+use Rattle.cg_cli.specs.declared.format.Format.{Format}
 use Rattle.cg_cli.specs.Replaying.{Reporting, Replays, ReplaysFrom}
 use Rattle.cg_cli.specs.Reports.{Report, Reports, report_on}
 use Rattle.cg_faults.specs.declared.fault.CliFault.{CliFault}
@@ -163,22 +164,25 @@ Upgrades-Keeps : (vocabulary : Vocabulary) (tree : Reading) (old mid new : Optio
 Upgrades-Keeps vocabulary tree old mid new result h k =
     record { text = h.text; written = h.written; reports = Reports-Keeps _ old mid new result h.reports k }
 
-Replays-Keeps : (lines : Reporting) (ops : List ℕ) (old mid new : Option (List ℕ)) (result : Result ℕ CliFault)
-    → Replays closed lines ops old mid result → Keeps mid new → Replays closed lines ops old new result
-Replays-Keeps lines ops old mid new (Err Write) h k = AppendsPart-Keeps old mid new _ h k
-Replays-Keeps lines ops old mid new (Err NoMemory) h k = (h.0, h.1, h.2, Appends-Keeps old mid new _ h.3 k)
-Replays-Keeps lines ops old mid new (Err Read) h k = absurd h
-Replays-Keeps lines ops old mid new ended h k = (h.0, Appends-Keeps old mid new _ h.1 k)
+Replays-Keeps : (format : Format) (lines : Reporting) (ops : List ℕ) (old mid new : Option (List ℕ)) (result : Result ℕ CliFault)
+    → Replays (closed_in format) lines ops old mid result → Keeps mid new → Replays (closed_in format) lines ops old new result
+Replays-Keeps format lines ops old mid new (Err Write) h k = AppendsPart-Keeps old mid new _ h k
+Replays-Keeps format lines ops old mid new (Err NoMemory) h k = (h.0, h.1, h.2, Appends-Keeps old mid new _ h.3 k)
+Replays-Keeps format lines ops old mid new (Err Read) h k = absurd h
+Replays-Keeps format lines ops old mid new ended h k = (h.0, Appends-Keeps old mid new _ h.1 k)
 
-ReplaysFrom-Keeps : (lines : Reporting) (before left old mid new : Option (List ℕ)) (result : Result ℕ CliFault)
-    → ReplaysFrom closed lines before left old mid result → Keeps mid new → ReplaysFrom closed lines before left old new result
-ReplaysFrom-Keeps lines before left old mid new (Err Read) h k = (h.0, h.1, Appends-Keeps old mid new _ h.2 k, h.3)
-ReplaysFrom-Keeps lines before left old mid new ended h k = (h.0, h.1, Replays-Keeps lines h.0 old mid new ended h.2 k)
+ReplaysFrom-Keeps : (format : Format) (lines : Reporting) (before left old mid new : Option (List ℕ)) (result : Result ℕ CliFault)
+    → ReplaysFrom (closed_in format) lines before left old mid result → Keeps mid new
+    → ReplaysFrom (closed_in format) lines before left old new result
+ReplaysFrom-Keeps format lines before left old mid new (Err Read) h k = (h.0, h.1, Appends-Keeps old mid new _ h.2 k, h.3)
+ReplaysFrom-Keeps format lines before left old mid new ended h k = (h.0, h.1, Replays-Keeps format lines h.0 old mid new ended h.2 k)
 
-ReplaysOver-Keeps : (before : Option (List ℕ)) (said : Reporting) (old mid new : Option (List ℕ)) (result : Result ℕ CliFault)
-    → ReplaysOver before said old mid result → Keeps mid new → ReplaysOver before said old new result
-ReplaysOver-Keeps before said old mid new result (inl h) k = inl (h.0, ReplaysFrom-Keeps said before h.0 old mid new result h.1 k)
-ReplaysOver-Keeps before said old mid new result (inr h) k = inr (IsUnread-Keeps old mid new result h k)
+ReplaysOver-Keeps : (format : Written) (before : Option (List ℕ)) (said : Reporting) (old mid new : Option (List ℕ))
+    (result : Result ℕ CliFault) → ReplaysOver format before said old mid result → Keeps mid new
+    → ReplaysOver format before said old new result
+ReplaysOver-Keeps format before said old mid new result (inl h) k =
+    inl (h.0, ReplaysFrom-Keeps (format_of format) said before h.0 old mid new result h.1 k)
+ReplaysOver-Keeps format before said old mid new result (inr h) k = inr (IsUnread-Keeps old mid new result h k)
 
 ReportsOnTree-Keeps : (known : Option (List ℕ)) (said : Reading → Report) (old mid new : Option (List ℕ)) (result : Result ℕ CliFault)
     → ReportsOnTree known said old mid result → Keeps mid new → ReportsOnTree known said old new result
@@ -211,8 +215,9 @@ CarriesOut-Keeps (request.Audit audit) files given old mid new result h k =
 CarriesOut-Keeps (request.Everybody asked) files given old mid new result h k =
     ReportsOnTree-Keeps (source files (name_of asked.tree) given) (everybody_asked asked) old mid new result h k
 CarriesOut-Keeps (request.Subtrees asked) files given old mid new result h k =
-    OnBothTexts-Keeps subtrees_read (EverybodyOn (wanted_of asked.wanted) (whom asked.everyone)) _ _ old mid new result
-    (λ subtrees tree said kept. Reports-Keeps (everybody_report (wanted_of asked.wanted) (whom asked.everyone) tree subtrees) old mid new
+    OnBothTexts-Keeps subtrees_read (EverybodyOn asked.format (wanted_of asked.wanted) (whom asked.everyone)) _ _ old mid new result
+    (λ subtrees tree said kept.
+    Reports-Keeps (everybody_report_in (format_of asked.format) (wanted_of asked.wanted) (whom asked.everyone) tree subtrees) old mid new
     result said kept) h k
 CarriesOut-Keeps (request.Explain explain) files given old mid new result h k =
     OnTree-Keeps (source files (name_of explain.tree) given) (ExplainSays explain old mid result) (ExplainSays explain old new result) old
@@ -234,9 +239,10 @@ CarriesOut-Keeps (request.ExplainPairs asked) files given old mid new result h k
 CarriesOut-Keeps (request.Replay replay) files given old mid new result h k =
     let ops = source files (other_file replay.sources) given in
     OnTreeText-Keeps (source files (tree_file replay.sources) given)
-    (λ vocabulary tree. ReplaysOver ops (replay_said replay vocabulary tree) old mid result)
-    (λ vocabulary tree. ReplaysOver ops (replay_said replay vocabulary tree) old new result) old mid new result
-    (λ vocabulary tree said. ReplaysOver-Keeps ops (replay_said replay vocabulary tree) old mid new result said k) h k
+    (λ vocabulary tree. ReplaysOver replay.format ops (replay_said replay vocabulary tree) old mid result)
+    (λ vocabulary tree. ReplaysOver replay.format ops (replay_said replay vocabulary tree) old new result) old mid new result
+    (λ vocabulary tree said.
+    ReplaysOver-Keeps replay.format ops (replay_said replay vocabulary tree) old mid new result said k) h k
 CarriesOut-Keeps (request.Upgrade upgrade) files given old mid new result h k =
     OnTreeText-Keeps (source files (name_of upgrade.tree) given) (λ vocabulary. Upgrades vocabulary old mid result)
     (λ vocabulary. Upgrades vocabulary old new result) old mid new result

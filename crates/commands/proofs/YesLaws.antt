@@ -16,9 +16,10 @@ use Rattle.cg_cli.specs.AllPairs.{read_then, pairs_found, all_report, ReportsPai
 use Rattle.cg_cli.specs.AsJson.{check_json_report, audit_json_report}
 use Rattle.cg_cli.specs.Formats.{listing_in}
 use Rattle.cg_cli.proofs.AsJson.{check_ending, audit_ending}
+use Rattle.cg_cli.proofs.FormatEndings.{everybody_ending}
 use Rattle.cg_cli.specs.Containment.{subtree_report, check_report}
 use Rattle.cg_cli.specs.Audits.{users_read, paths_read, pairs_report, audit_report}
-use Rattle.cg_cli.specs.Everybody.{everybody_said, everybody_report}
+use Rattle.cg_cli.specs.Everybody.{everybody_said_in, everybody_report_in, everybody_report}
 use Rattle.cg_cli.specs.declared.everybody.Wanted.{Wanted}
 use Rattle.cg_cli.specs.Once.{same_user}
 use Rattle.cg_model.specs.Once.{once}
@@ -138,11 +139,17 @@ all_refused fault users subtrees pairs is =
     unread_pairs (users_read users) (paths_read subtrees) (lifted fault)
     (λ (users : List Identity) (paths : List Names) (st : State). pairs_found st (once same_user users) (once same_path paths)) pairs is
 
-everybody_refused : (wanted : Wanted) (asked : Whom) (fault : TreeFault) (subtrees : List (List ℕ))
-    → (everybody_report wanted asked (Err fault) subtrees).ending ≡ Ok 0 → ⊥
-everybody_refused wanted asked fault subtrees is =
+everybody_refused : (format : Written) (wanted : Wanted) (asked : Whom) (fault : TreeFault) (subtrees : List (List ℕ))
+    → (everybody_report_in (format_of format) wanted asked (Err fault) subtrees).ending ≡ Ok 0 → ⊥
+everybody_refused format wanted asked fault subtrees is =
     refused {A = Unit {0}} (Ok tt) (paths_read subtrees) (lifted fault)
-    (λ (none : Unit {0}) (paths : List Names) (st : State). everybody_said wanted asked st (once same_path paths)) is
+    (λ (none : Unit {0}) (paths : List Names) (st : State). everybody_said_in (format_of format) wanted asked st (once same_path paths)) is
+
+pub everybody_ended : (format : Written) (wanted : Wanted) (asked : Whom) (tree : Reading) (subtrees : List (List ℕ)) (status : ℕ)
+    → (everybody_report_in (format_of format) wanted asked tree subtrees).ending ≡ Ok status
+    → (everybody_report wanted asked tree subtrees).ending ≡ Ok status
+everybody_ended format wanted asked tree subtrees status is =
+    sym (everybody_ending (format_of format) wanted asked tree subtrees) ∙ is
 
 pub not_unread : {P : Type 0} (old new : Option (List ℕ)) (status : ℕ) → IsUnread old new (Ok status) → P
 not_unread old new status (inl never, keeps) = let none : ⊥ = cc in absurd none
@@ -221,10 +228,11 @@ module _ (files : Files) (given old new : Option (List ℕ)) where
       by_reading (Ok st) reading reports = (
         text,
         read_whole (source files (name_of asked.tree) given) text is_tree reading.short,
-        held_against_everybody text (Ok st) (wanted_of asked.wanted) (whom asked.everyone) subtrees reading reports.0,
+        held_against_everybody text (Ok st) (wanted_of asked.wanted) (whom asked.everyone) subtrees reading
+            (everybody_ended asked.format (wanted_of asked.wanted) (whom asked.everyone) (Ok st) subtrees 0 reports.0),
       )
       by_reading (Err fault) reading reports =
-          absurd (everybody_refused (wanted_of asked.wanted) (whom asked.everyone) fault subtrees reports.0)
+          absurd (everybody_refused asked.format (wanted_of asked.wanted) (whom asked.everyone) fault subtrees reports.0)
   everybody_carried asked (inr it) = not_unread old new 0 it
 
   -- what both texts say of a request of subtrees that lines name
@@ -239,7 +247,7 @@ module _ (files : Files) (given old new : Option (List ℕ)) where
       by_lines (subtrees_read named) refl read reading said
     where
       by_reading : (subtrees : List (List ℕ)) → subtrees_read named ≡ Ok subtrees → (read : Reading) → IsReading text read
-          → EverybodyOn (wanted_of asked.wanted) (whom asked.everyone) subtrees read old new (Ok 0) → AreHeldByLines asked
+          → EverybodyOn asked.format (wanted_of asked.wanted) (whom asked.everyone) subtrees read old new (Ok 0) → AreHeldByLines asked
       by_reading subtrees of (Ok st) reading reports =
           let lines = are_lines named subtrees of in (
             text,
@@ -248,13 +256,14 @@ module _ (files : Files) (given old new : Option (List ℕ)) where
             read_whole (source files (tree_file asked.sources) given) text is_tree reading.short,
             lines_whole (source files (other_file asked.sources) given) named are_named lines.1,
             lines.0,
-            held_against_everybody text (Ok st) (wanted_of asked.wanted) (whom asked.everyone) subtrees reading reports.0,
+            held_against_everybody text (Ok st) (wanted_of asked.wanted) (whom asked.everyone) subtrees reading
+                (everybody_ended asked.format (wanted_of asked.wanted) (whom asked.everyone) (Ok st) subtrees 0 reports.0),
           )
       by_reading subtrees of (Err fault) reading reports =
-          absurd (everybody_refused (wanted_of asked.wanted) (whom asked.everyone) fault subtrees reports.0)
+          absurd (everybody_refused asked.format (wanted_of asked.wanted) (whom asked.everyone) fault subtrees reports.0)
 
       by_lines : (lines : Result (List (List ℕ)) CliFault) → subtrees_read named ≡ lines → (read : Reading) → IsReading text read
-          → OnLines (EverybodyOn (wanted_of asked.wanted) (whom asked.everyone)) lines read old new (Ok 0) → AreHeldByLines asked
+          → OnLines (EverybodyOn asked.format (wanted_of asked.wanted) (whom asked.everyone)) lines read old new (Ok 0) → AreHeldByLines asked
       by_lines (Ok subtrees) of read reading said = by_reading subtrees of read reading said
       by_lines (Err fault) of read reading said = let never : ⊥ = let same = said.0 in cc in absurd never
   lines_carried asked (inl (text, named, is_tree, are_named, (inr it))) = not_unread old new 0 it

@@ -28,7 +28,7 @@ use Rattle.cg_cli.specs.AllPairs.{all_report, ReportsPairsBy}
 use Rattle.cg_cli.specs.AsJson.{may_json_report, check_json_report, FurtherSaysAsJson, audit_json_report, advise_json_report, advise_settled_json_report, advise_pairs_json_report}
 use Rattle.cg_cli.specs.Asking.{CallEnding}
 use Rattle.cg_cli.specs.EachPair.{audit_pairs_report, explain_pairs_asked}
-use Rattle.cg_cli.specs.Everybody.{everybody_report}
+use Rattle.cg_cli.specs.Everybody.{everybody_report_in}
 use Rattle.cg_cli.specs.declared.everybody.Wanted.{Wanted}
 use Rattle.cg_cli.specs.declared.everybody.Wanted.TheVariants.{Audit as AuditWanted, Advise as AdviseWanted, Explain as ExplainWanted}
 use Rattle.arguments.specs.declared.everyone.Wanted.{Wanted as Asked}
@@ -44,7 +44,8 @@ use Rattle.cg_cli.specs.SettledAdvice.{advise_settled_report}
 use Rattle.cg_cli.specs.FurtherPairs.{ReportsFirstBy}
 use Rattle.cg_cli.specs.SettledPairs.{ReportsSettled}
 use Rattle.cg_cli.specs.Upgrades.{Upgrades}
-use Rattle.cg_cli.specs.Replays.{closed, lines_report}
+use Rattle.cg_cli.specs.Replays.{closed_in, operations_report}
+use Rattle.cg_cli.specs.ReplayFormats.{in_format as protocol_in}
 use Rattle.cg_cli.specs.Replaying.{Reporting, ReplaysFrom}
 use Rattle.cg_cli.specs.Reports.{Report, Reports}
 use Rattle.cg_faults.specs.declared.fault.CliFault.{CliFault}
@@ -114,7 +115,8 @@ wanted_of asked_for.Explain = ExplainWanted
 
 abbrev pub everybody_asked : Everybody → Reading → Report
 everybody_asked asked tree =
-    everybody_report (wanted_of asked.wanted) (whom asked.everyone) tree (map (λ subtree. subtree.now) asked.subtrees.items)
+    everybody_report_in (format_of asked.format) (wanted_of asked.wanted) (whom asked.everyone) tree
+    (map (λ subtree. subtree.now) asked.subtrees.items)
 
 -- what check says, or where that is unsettled what the second row of guards and the planner know
 abbrev pub SettlesIn : Written → State → Identity → Names → Report → Type 0
@@ -157,8 +159,8 @@ AuditsOn format pairs tree = ReportsPairsBy (listing_in (format_of format)) (aud
 abbrev pub ExplainsOn : Written → List GivenPair → Reading → CallEnding
 ExplainsOn format pairs tree = ReportsToldBy (told_in (format_of format)) (explain_pairs_asked tree pairs)
 
-abbrev pub EverybodyOn : Wanted → Whom → List (List ℕ) → Reading → CallEnding
-EverybodyOn wanted asked subtrees tree = Reports (everybody_report wanted asked tree subtrees)
+abbrev pub EverybodyOn : Written → Wanted → Whom → List (List ℕ) → Reading → CallEnding
+EverybodyOn format wanted asked subtrees tree = Reports (everybody_report_in (format_of format) wanted asked tree subtrees)
 
 -- the first fault of the lines of a text, by when nothing is written, or what is answered of what they name
 abbrev pub OnLines : {A : Type 0} → (List A → Reading → CallEnding) → Result (List A) CliFault → Reading → CallEnding
@@ -194,7 +196,13 @@ ExplainSays explain old new result tree =
     (explain_asked tree (map ids_of explain.users.items) (map (λ subtree. subtree.now) explain.subtrees.items)) old new result
 
 abbrev pub replay_said : Replay → Vocabulary → Reading → Reporting
-replay_said replay vocabulary tree = lines_report vocabulary tree replay.user.uid replay.user.gids.items (name_of replay.subtree)
+replay_said replay vocabulary tree =
+    operations_report (protocol_in (format_of replay.format) vocabulary) tree replay.user.uid replay.user.gids.items
+    (name_of replay.subtree)
+
+-- with what is said behind all lines
+abbrev pub replay_written : Replay → Vocabulary → Reading → List ℕ → Report
+replay_written replay vocabulary tree ops = closed_in (format_of replay.format) (replay_said replay vocabulary tree ops)
 
 -- ---- what a command answers, and has written by then
 
@@ -234,12 +242,14 @@ abbrev pub OnPairsText : (List GivenPair → Reading → CallEnding) → Option 
 OnPairsText Says known pairs = OnBothTexts pairs_read Says known pairs
 
 -- The report of operations over what a reader had to give, of which some may be left.
-abbrev pub ReplaysOver : Option (List ℕ) → Reporting → Option (List ℕ) → Option (List ℕ) → Result ℕ CliFault → Type 0
-ReplaysOver before said old new result = ((left : Option (List ℕ)) × ReplaysFrom closed said before left old new result) ⊎ IsUnread old new result
+abbrev pub ReplaysOver : Written → Option (List ℕ) → Reporting → Option (List ℕ) → Option (List ℕ) → Result ℕ CliFault → Type 0
+ReplaysOver format before said old new result =
+    ((left : Option (List ℕ)) × ReplaysFrom (closed_in (format_of format)) said before left old new result) ⊎ IsUnread old new result
 
 -- The report of operations on the text of a tree.
-abbrev pub ReplaysOnTree : Option (List ℕ) → Option (List ℕ) → (Vocabulary → Reading → Reporting) → Option (List ℕ) → Option (List ℕ) → Result ℕ CliFault → Type 0
-ReplaysOnTree known ops said old new result = OnTreeText known (λ vocabulary tree. ReplaysOver ops (said vocabulary tree) old new result) old new result
+abbrev pub ReplaysOnTree : Replay → Option (List ℕ) → Option (List ℕ) → Option (List ℕ) → Option (List ℕ) → Result ℕ CliFault → Type 0
+ReplaysOnTree replay known ops old new result =
+    OnTreeText known (λ vocabulary tree. ReplaysOver replay.format ops (replay_said replay vocabulary tree) old new result) old new result
 
 -- A request, with the files that there are and what standard input gives. Help has some text.
 abbrev pub CarriesOut : Request → Files → Option (List ℕ) → Option (List ℕ) → Option (List ℕ) → Result ℕ CliFault → Type 0
@@ -255,7 +265,8 @@ CarriesOut (request.Audit audit) files given old new result =
 CarriesOut (request.Everybody asked) files given old new result =
     ReportsOnTree (source files (name_of asked.tree) given) (everybody_asked asked) old new result
 CarriesOut (request.Subtrees asked) files given old new result =
-    OnBothTexts subtrees_read (EverybodyOn (wanted_of asked.wanted) (whom asked.everyone)) (source files (tree_file asked.sources) given)
+    OnBothTexts subtrees_read (EverybodyOn asked.format (wanted_of asked.wanted) (whom asked.everyone))
+    (source files (tree_file asked.sources) given)
     (source files (other_file asked.sources) given) old new result
 CarriesOut (request.Explain explain) files given old new result =
     OnTree (source files (name_of explain.tree) given) (ExplainSays explain old new result) old new result
@@ -273,5 +284,4 @@ CarriesOut (request.ExplainPairs asked) files given old new result =
 CarriesOut (request.Upgrade upgrade) files given old new result =
     OnTreeText (source files (name_of upgrade.tree) given) (λ vocabulary. Upgrades vocabulary old new result) old new result
 CarriesOut (request.Replay replay) files given old new result =
-    ReplaysOnTree (source files (tree_file replay.sources) given) (source files (other_file replay.sources) given) (replay_said replay)
-    old new result
+    ReplaysOnTree replay (source files (tree_file replay.sources) given) (source files (other_file replay.sources) given) old new result

@@ -260,7 +260,15 @@ impl OnTree for Everybody<'_> {
         out: &mut W,
     ) -> Result<u8, CliFault> {
         let subtrees = self.subtrees.as_slice();
-        against_everybody(alloc, tree, self.wanted, &self.everyone, subtrees, out)
+        against_everybody(
+            alloc,
+            self.format,
+            tree,
+            self.wanted,
+            &self.everyone,
+            subtrees,
+            out,
+        )
     }
 }
 

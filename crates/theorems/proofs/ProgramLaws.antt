@@ -42,7 +42,7 @@ use Rattle.cg_cli.specs.Formats.{told_in, listing_in, first_in}
 use Rattle.cg_cli.specs.declared.format.Format.{Format}
 use Rattle.cg_cli.specs.declared.format.Format.TheVariants.{Lines, Json}
 use Rattle.cg_cli.specs.declared.everybody.Wanted.{Wanted}
-use Rattle.cg_cli.specs.Everybody.{everybody_report}
+use Rattle.cg_cli.specs.Everybody.{everybody_report_in}
 use Rattle.cg_everybody.specs.Everybody.{GuardsHoldForEverybody}
 use Rattle.machine_everybody.specs.Everybody.{Everybody as Whom, IsAsked}
 use Rattle.cg_cli.specs.Settled.{IsSettledFrom}
@@ -50,9 +50,10 @@ use Rattle.cg_cli.specs.May.{may_report}
 use Rattle.cg_cli.specs.Settling.{AskedReports, IsFurther}
 use Rattle.cg_cli.specs.Audits.{users_read, paths_read, audit_report}
 use Rattle.cg_cli.specs.Once.{same_user}
-use Rattle.cg_cli.specs.Replays.{closed, replay_report}
+use Rattle.cg_cli.specs.Replays.{closed_in, replay_report}
 use Rattle.cg_cli.specs.Replaying.{Reporting, Replays}
 use Rattle.cg_cli.specs.Reports.{Report, Reports}
+use Rattle.cg_cli.proofs.FormatEndings.{replay_ending}
 use Rattle.cg_cli.proofs.AsJson.{may_ending, check_ending, audit_ending, advise_ending, advise_pairs_ending}
 use Rattle.cg_cli.specs.Upgrades.{Upgrades, IsNewText, upgrade_report}
 use Rattle.cg_faults.specs.declared.fault.CliFault.{CliFault}
@@ -77,14 +78,14 @@ use Rattle.arguments.specs.declared.request.Request.TheVariants as request
 use Rattle.streams.specs.declared.write.WriteFailed.{WriteFailed}
 use Rattle.commands.specs.PairLines.{GivenPair, pairs_read, AsksSomething}
 use Rattle.commands.specs.SubtreeLines.{subtrees_read, AreLinesOf}
-use Rattle.commands.specs.Requests.{Files, source, name_of, may_said, check_said, whom, wanted_of, everybody_asked, format_of, in_format, audit_said, advise_said, advise_settled_said, advise_pairs_said, SettlesIn, SettlesAs, AdviseSays, AdvisesOn, AuditsOn, ExplainsOn, EverybodyOn, OnLines, OnBothTexts, GuardsSay, FurtherSay, AuditSays, ExplainSays, replay_said, OnTreeText, OnTree, ReplaysOver, CarriesOut}
+use Rattle.commands.specs.Requests.{Files, source, name_of, may_said, check_said, whom, wanted_of, everybody_asked, format_of, in_format, audit_said, advise_said, advise_settled_said, advise_pairs_said, replay_written, SettlesIn, SettlesAs, AdviseSays, AdvisesOn, AuditsOn, ExplainsOn, EverybodyOn, OnLines, OnBothTexts, GuardsSay, FurtherSay, AuditSays, ExplainSays, replay_said, OnTreeText, OnTree, ReplaysOver, CarriesOut}
 use Rattle.commands.specs.Runs.{CarriesOutBuffered, LeadsTo, LiesBelow, RunsTo}
 use Rattle.commands.specs.declared.fault.Fault.{Fault}
 use Rattle.commands.specs.declared.fault.Fault.TheVariants.{Usage, Cli}
 use Rattle.commands.proofs.BufferedLaws.{CarriesOut-Keeps}
 use Rattle.commands.proofs.PairLaws.{asked_about}
 use Rattle.commands.proofs.SubtreeLaws.{are_lines}
-use Rattle.commands.proofs.YesLaws.{not_unread, flushed_is, ends_alike}
+use Rattle.commands.proofs.YesLaws.{not_unread, flushed_is, ends_alike, everybody_ended}
 use Rattle.machine_answers.proofs.GuardedLaws.{named_read, contained_by_status}
 use Rattle.theorems.proofs.SettledLaws.{settled_as}
 use Rattle.theorems.proofs.FurtherLaws.{settled_told, settled_told_as_json, all_told, first_told}
@@ -170,13 +171,13 @@ each_alone : (A B : Type 0) (all : Bool) → all ≡ true → MatchBool all A B 
 each_alone A B all is said = subst (λ b. MatchBool b A B) is said
 
 -- what is answered on the operations that there are
-on_operations : (said : Reporting) (known old new : Option (List ℕ)) (status : ℕ) (ops : List ℕ) → known ≡ Some ops
-    → ReplaysOver known said old new (Ok status) → Replays closed said ops old new (Ok status)
-on_operations said known old new status ops of_known (inl over) =
+on_operations : (format : Written) (said : Reporting) (known old new : Option (List ℕ)) (status : ℕ) (ops : List ℕ) → known ≡ Some ops
+    → ReplaysOver format known said old new (Ok status) → Replays (closed_in (format_of format)) said ops old new (Ok status)
+on_operations format said known old new status ops of_known (inl over) =
     let replays = over.1 in
     let same : replays.0 ≡ ops = subst (λ k. IfSome k (λ bytes. replays.0 ≡ bytes)) of_known replays.1 in
-    subst (λ bytes. Replays closed said bytes old new (Ok status)) same replays.2
-on_operations said known old new status ops of_known (inr unread) = not_unread old new status unread
+    subst (λ bytes. Replays (closed_in (format_of format)) said bytes old new (Ok status)) same replays.2
+on_operations format said known old new status ops of_known (inr unread) = not_unread old new status unread
 
 -- what is answered of what the lines name that there are
 on_lines : {A : Type 0} (lines : List ℕ → Result (List A) CliFault) (Says : List A → Reading → CallEnding)
@@ -202,11 +203,13 @@ pairs_named Says pairs (Ok named) is st old new status said =
     (named, sym is, asked_about Says pairs (Ok named) is (Ok st) old new status said, said)
 pairs_named Says pairs (Err fault) is st old new status said = let never : ⊥ = let same = said.0 in cc in absurd never
 
-subtrees_named : (wanted : Wanted) (asked : Whom) (lines : List ℕ) (read : Result (List (List ℕ)) CliFault) → read ≡ subtrees_read lines
-    → (st : State) (old new : Option (List ℕ)) (status : ℕ) → OnLines (EverybodyOn wanted asked) read (Ok st) old new (Ok status)
-    → (named : List (List ℕ)) × (subtrees_read lines ≡ Ok named) × Reports (everybody_report wanted asked (Ok st) named) old new (Ok status)
-subtrees_named wanted asked lines (Ok named) is st old new status said = (named, sym is, said)
-subtrees_named wanted asked lines (Err fault) is st old new status said = let never : ⊥ = let same = said.0 in cc in absurd never
+subtrees_named : (format : Written) (wanted : Wanted) (asked : Whom) (lines : List ℕ) (read : Result (List (List ℕ)) CliFault)
+    → read ≡ subtrees_read lines → (st : State) (old new : Option (List ℕ)) (status : ℕ)
+    → OnLines (EverybodyOn format wanted asked) read (Ok st) old new (Ok status)
+    → (named : List (List ℕ)) × (subtrees_read lines ≡ Ok named)
+    × Reports (everybody_report_in (format_of format) wanted asked (Ok st) named) old new (Ok status)
+subtrees_named format wanted asked lines (Ok named) is st old new status said = (named, sym is, said)
+subtrees_named format wanted asked lines (Err fault) is st old new status said = let never : ⊥ = let same = said.0 in cc in absurd never
 
 -- ---- how it is written
 
@@ -277,34 +280,39 @@ module _ (files : Files) (given old new : Option (List ℕ)) (status : ℕ) wher
         let words : List (List ℕ) = map (λ subtree. subtree.now) asked.subtrees.items in
         let report =
         on_state (λ read. Reports (everybody_asked asked read) old new (Ok status)) (source files (name_of asked.tree) given) old new status
-        text st of_known of_text carried in (
+        text st of_known of_text carried in
+        let ended = everybody_ended asked.format (wanted_of asked.wanted) (whom asked.everyone) (Ok st) words status report.0 in (
           report,
-          all_hold st (wanted_of asked.wanted) (whom asked.everyone) words subtrees status of_paths report.0,
-          all_contained st (wanted_of asked.wanted) (whom asked.everyone) words subtrees status of_paths report.0 of_text.says.formed,
+          all_hold st (wanted_of asked.wanted) (whom asked.everyone) words subtrees status of_paths ended,
+          all_contained st (wanted_of asked.wanted) (whom asked.everyone) words subtrees status of_paths ended of_text.says.formed,
         )
 
     pub subtrees_ended : (asked : Subtrees) (lines : List ℕ) → CarriesOut (request.Subtrees asked) files given old new (Ok status)
         → source files (tree_file asked.sources) given ≡ Some text → source files (other_file asked.sources) given ≡ Some lines
         → IsTextOf st text → length lines ≤ 16777216
         → (named : List (List ℕ)) × (subtrees_read lines ≡ Ok named) × AreLinesOf lines named
-        × Reports (everybody_report (wanted_of asked.wanted) (whom asked.everyone) (Ok st) named) old new (Ok status)
+        × Reports (everybody_report_in (format_of asked.format) (wanted_of asked.wanted) (whom asked.everyone) (Ok st) named) old new
+        (Ok status)
         × ((subtrees : List Names) → paths_read named ≡ Ok subtrees
         → ((status ≡ 0) ↔ All (GuardsHoldForEverybody st (whom asked.everyone)) subtrees)
         × (status ≡ 0 → (users : List Identity) → AllByRecursion (IsAsked (whom asked.everyone)) users → users ≢ []
         → AreContained st users subtrees))
     subtrees_ended asked lines carried of_known of_lines of_text short =
         let said =
-        subtrees_named (wanted_of asked.wanted) (whom asked.everyone) lines (subtrees_read lines) refl st old new status
-        (on_lines subtrees_read (EverybodyOn (wanted_of asked.wanted) (whom asked.everyone)) (source files (tree_file asked.sources) given)
+        subtrees_named asked.format (wanted_of asked.wanted) (whom asked.everyone) lines (subtrees_read lines) refl st old new status
+        (on_lines subtrees_read (EverybodyOn asked.format (wanted_of asked.wanted) (whom asked.everyone))
+        (source files (tree_file asked.sources) given)
         (source files (other_file asked.sources) given) old new status text lines st of_known of_lines of_text short carried) in (
           said.0,
           said.1,
           (are_lines lines said.0 said.1).0,
           said.2,
-          λ subtrees of_paths. (
-            all_hold st (wanted_of asked.wanted) (whom asked.everyone) said.0 subtrees status of_paths said.2.0,
-            all_contained st (wanted_of asked.wanted) (whom asked.everyone) said.0 subtrees status of_paths said.2.0 of_text.says.formed,
-          ),
+          λ subtrees of_paths.
+              let ended =
+              everybody_ended asked.format (wanted_of asked.wanted) (whom asked.everyone) (Ok st) said.0 status said.2.0 in (
+                all_hold st (wanted_of asked.wanted) (whom asked.everyone) said.0 subtrees status of_paths ended,
+                all_contained st (wanted_of asked.wanted) (whom asked.everyone) said.0 subtrees status of_paths ended of_text.says.formed,
+              ),
         )
 
     pub settle_ended : (check : Check) (user : Identity) (subtree : Names)
@@ -417,20 +425,18 @@ module _ (files : Files) (given old new : Option (List ℕ)) (status : ℕ) wher
     replay_reported : (replay : Replay) (ops : List ℕ) → CarriesOut (request.Replay replay) files given old new (Ok status)
         → source files (tree_file replay.sources) given ≡ Some text → source files (other_file replay.sources) given ≡ Some ops
         → IsTextOf st text
-        → Reports (replay_report (vocabulary_in text) (Ok st) replay.user.uid replay.user.gids.items
-        (name_of replay.subtree) ops) old new (Ok status)
+        → Reports (replay_written replay (vocabulary_in text) (Ok st) ops) old new (Ok status)
     replay_reported replay ops carried of_known of_ops of_text =
-        on_operations (replay_said replay (vocabulary_in text) (Ok st)) (source files
+        on_operations replay.format (replay_said replay (vocabulary_in text) (Ok st)) (source files
         (other_file replay.sources) given) old new status ops of_ops
-        (on_text (λ vocabulary read. ReplaysOver (source files (other_file replay.sources) given)
+        (on_text (λ vocabulary read. ReplaysOver replay.format (source files (other_file replay.sources) given)
         (replay_said replay vocabulary read) old new (Ok status))
         (source files (tree_file replay.sources) given) old new status text st of_known of_text carried)
 
     pub replay_ended : (replay : Replay) (ops : List ℕ) → CarriesOut (request.Replay replay) files given old new (Ok status)
         → source files (tree_file replay.sources) given ≡ Some text → source files (other_file replay.sources) given ≡ Some ops
         → IsTextOf st text
-        → Reports (replay_report (vocabulary_in text) (Ok st) replay.user.uid replay.user.gids.items
-        (name_of replay.subtree) ops) old new (Ok status)
+        → Reports (replay_written replay (vocabulary_in text) (Ok st) ops) old new (Ok status)
         × (status ≡ 0 → (user : Identity) (word : List ℕ) (subtree : Names) (tried : List Op)
         → user_of replay.user.uid replay.user.gids.items ≡ Some user → name_of replay.subtree ≡ Some word → path_at word ≡ Some subtree
         → IsSubtree st subtree → HaveLines (vocabulary_in text) tried → ops ≡ op_lines tried → IsHeld st (by_user user tried) subtree)
@@ -442,6 +448,8 @@ module _ (files : Files) (given old new : Option (List ℕ)) (status : ℕ) wher
               (named_read replay.user.uid replay.user.gids.items user of_user) word subtree tried
               (ap (λ (found : Option Names). ok_or found BadPath) of_path) sub lines
               ((λ i. (replay_report (vocabulary_in text) (Ok st) replay.user.uid replay.user.gids.items (sym of_word i) (sym are i)).ending)
+              ∙ sym (replay_ending (format_of replay.format) (vocabulary_in text) (Ok st) replay.user.uid replay.user.gids.items
+              (name_of replay.subtree) ops)
               ∙ report.0 ∙ ap Ok zero),
         )
 

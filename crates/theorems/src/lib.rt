@@ -59,7 +59,7 @@ ghost use Rattle.cg_cli.specs.AllPairs.{all_report, ReportsPairsBy, UnlistedAreC
 ghost use Rattle.cg_cli.specs.AsJson.{answer_json_report, parts_report};
 ghost use Rattle.cg_cli.specs.Explaining.{explain_asked, ReportsToldBy};
 ghost use Rattle.cg_cli.specs.Formats.{told_in, listing_in, first_in};
-ghost use Rattle.cg_cli.specs.Everybody.{everybody_report};
+ghost use Rattle.cg_cli.specs.Everybody.{everybody_report, everybody_report_in};
 ghost use Rattle.cg_cli.specs.declared.everybody.Wanted.TheVariants.{Advise as AdviseWanted};
 ghost use Rattle.cg_everybody.specs.Advice.{everybody_advice, everybody_advised, IsAdvisedToEverybody};
 ghost use Rattle.cg_everybody.specs.Everybody.{GuardsHoldForEverybody};
@@ -93,7 +93,7 @@ ghost use Rattle.arguments.specs.declared.request.Request.{Request};
 ghost use Rattle.arguments.specs.declared.request.Request.TheVariants as request;
 ghost use Rattle.commands.specs.PairLines.{pairs_read, AsksSomething};
 ghost use Rattle.commands.specs.SubtreeLines.{subtrees_read, AreLinesOf};
-ghost use Rattle.commands.specs.Requests.{Files, source, name_of, may_said, check_said, whom, wanted_of, everybody_asked, format_of, in_format, audit_said, advise_said, advise_settled_said, advise_pairs_said, CarriesOut};
+ghost use Rattle.commands.specs.Requests.{Files, source, name_of, may_said, check_said, whom, wanted_of, everybody_asked, format_of, in_format, audit_said, advise_said, advise_settled_said, advise_pairs_said, replay_written, CarriesOut};
 ghost use Rattle.commands.specs.Runs.{LeadsTo, RunsTo};
 ghost use Rattle.commands.specs.declared.fault.Fault.{Fault};
 ghost use Rattle.streams.specs.declared.write.WriteFailed.{WriteFailed};
@@ -329,7 +329,7 @@ pub fn the_program()
         → source files (tree_file asked.sources) given ≡ Some text → source files (other_file asked.sources) given ≡ Some lines
         → IsTextOf st text → length lines ≤ 16777216
         → (named : List (List ℕ)) × (subtrees_read lines ≡ Ok named) × AreLinesOf lines named
-        × Reports (everybody_report (wanted_of asked.wanted) (whom asked.everyone) (Ok st) named) old new (Ok status)
+        × Reports (everybody_report_in (format_of asked.format) (wanted_of asked.wanted) (whom asked.everyone) (Ok st) named) old new (Ok status)
         × ((subtrees : List Names) → paths_read named ≡ Ok subtrees
         → ((status ≡ 0) ↔ All (GuardsHoldForEverybody st (whom asked.everyone)) subtrees)
         × (status ≡ 0 → (users : List Identity) → AllByRecursion (IsAsked (whom asked.everyone)) users → users ≢ [] → AreContained st users subtrees)) }
@@ -413,7 +413,7 @@ pub fn the_program()
     ensures replay { (replay : Replay) (files : Files) (given old new : Option (List ℕ)) (status : ℕ) (text ops : List ℕ) (st : State)
         → CarriesOut (request.Replay replay) files given old new (Ok status)
         → source files (tree_file replay.sources) given ≡ Some text → source files (other_file replay.sources) given ≡ Some ops → IsTextOf st text
-        → Reports (replay_report (vocabulary_in text) (Ok st) replay.user.uid replay.user.gids.items (name_of replay.subtree) ops) old new (Ok status)
+        → Reports (replay_written replay (vocabulary_in text) (Ok st) ops) old new (Ok status)
         × (status ≡ 0 → (user : Identity) (word : List ℕ) (subtree : Names) (tried : List Op)
         → user_of replay.user.uid replay.user.gids.items ≡ Some user → name_of replay.subtree ≡ Some word → path_at word ≡ Some subtree
         → IsSubtree st subtree → HaveLines (vocabulary_in text) tried → ops ≡ op_lines tried → IsHeld st (by_user user tried) subtree) }

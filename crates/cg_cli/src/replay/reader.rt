@@ -44,7 +44,7 @@ pub fn replay_from<R: BufRead, W: Write>(
 }
 
 /// The same, written as a format says.
-pub(crate) fn replay_from_in<R: BufRead, W: Write>(
+pub fn replay_from_in<R: BufRead, W: Write>(
     alloc: Global,
     format: Format,
     tree: &[u8],
