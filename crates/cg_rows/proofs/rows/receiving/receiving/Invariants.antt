@@ -5,5 +5,5 @@ use Rattle.cg_rows.proofs.rows.receiving.receiving.Given as goal
 -- what was found, and what is still to come
 abbrev pub invariant-loop-entry : goal.invariant-loop-entry
 invariant-loop-entry l =
-    let those = λ es. map (λ e. e.0) (filter (λ e. row_receives l.user.now e.0 e.1) es) in
+    let those = λ es. map (λ e. e.0) (filter (λ e. row_receives l.user e.0 e.1) es) in
     l.found.items ++ those (drop l.entry-index l.entry-items) ≡ those l.entry-items
