@@ -41,18 +41,18 @@ fn leads_out<H: Hierarchy>(asker: &Asker<H>, path: &Path) -> bool
 }
 
 /// The first cgroup outside, of those to which processes may come, to which one from inside passes.
-fn first_to_leave_to<'a, H: Hierarchy>(asker: &Asker<H>, receivers: &'a [Path]) -> Option<&'a Path>
+fn first_to_leave_to<'a, H: Hierarchy>(asker: &Asker<H>, places: &'a [Path]) -> Option<&'a Path>
     ensures { option_copied result
-        ≡ find (leads_out (H.state asker.now.tree.now) asker.now.user.now asker.now.subtree.now) receivers.entry.now }
+        ≡ find (leads_out (H.state asker.now.tree.now) asker.now.user.now asker.now.subtree.now) places.entry.now }
 {
-    receivers.iter().find(|path| leads_out(asker, *path))
+    places.iter().find(|path| leads_out(asker, *path))
 }
 
 /// The first cgroup inside, of those to which processes may come.
-fn first_to_enter_at<'a>(subtree: &Path, receivers: &'a [Path]) -> Option<&'a Path>
-    ensures { option_copied result ≡ find (inside subtree.now) receivers.entry.now }
+fn first_to_enter_at<'a>(subtree: &Path, places: &'a [Path]) -> Option<&'a Path>
+    ensures { option_copied result ≡ find (inside subtree.now) places.entry.now }
 {
-    receivers.iter().find(|path| subtree.is_prefix_of(*path))
+    places.iter().find(|path| subtree.is_prefix_of(*path))
 }
 
 /// Where a process at a place goes over the edge, if these are the first cgroups outside and inside for it.
@@ -107,14 +107,14 @@ fn first_moved<H: Hierarchy>(
 /// The first move over the edge that is allowed.
 pub fn first_move<H: Hierarchy>(
     asker: &Asker<H>,
-    receivers: &[Path],
+    places: &[Path],
     pids: &[Pid],
 ) -> Result<Option<Operations>, NoMemory>
-    requires receivers { receivers.now ≡ receivers (H.state asker.now.tree.now) asker.now.user.now }
+    requires places { places.now ≡ receivers (H.state asker.now.tree.now) asker.now.user.now }
     requires pids { pids.now ≡ pids_of (H.state asker.now.tree.now) }
     ensures { IfOk result (λ found. found ≡ first_move (H.state asker.now.tree.now) asker.now.user.now asker.now.subtree.now) }
 {
-    let out = first_to_leave_to(asker, receivers);
-    let into = first_to_enter_at(asker.subtree, receivers);
+    let out = first_to_leave_to(asker, places);
+    let into = first_to_enter_at(asker.subtree, places);
     first_moved(asker, out, into, pids)
 }

@@ -21,9 +21,9 @@ use std::alloc::Global;
 fn first_passage<H: Hierarchy>(asker: &Asker<H>) -> Result<Option<Operations>, NoMemory>
     ensures { IfOk result (λ found. found ≡ first_passage (H.state asker.now.tree.now) asker.now.user.now asker.now.subtree.now) }
 {
-    let receivers = asker.tree.receivers(asker.alloc, asker.user)?;
+    let places = asker.tree.receivers(asker.alloc, asker.user)?;
     let pids = asker.tree.pids(asker.alloc)?;
-    if let Some(found) = first_move(asker, &receivers, &pids)? {
+    if let Some(found) = first_move(asker, &places, &pids)? {
         return Ok(Some(found));
     }
     first_probe(asker, &pids)

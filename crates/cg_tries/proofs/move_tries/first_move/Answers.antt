@@ -11,7 +11,7 @@ returns g c =
     let st = g.H.Hierarchy.state c.args.asker.now.tree.now in
     let user = c.args.asker.now.user.now in
     let subtree = c.args.asker.now.subtree.now in
-    let out = c.first_to_leave_to-out.ensures ∙ ap (find (leads_out st user subtree)) c.requires.receivers ∙ first_left_to st user subtree in
-    let into = c.first_to_enter_at-into.ensures ∙ ap (find (inside subtree)) c.requires.receivers ∙ first_entered_at st user subtree in
+    let out = c.first_to_leave_to-out.ensures ∙ ap (find (leads_out st user subtree)) c.requires.places ∙ first_left_to st user subtree in
+    let into = c.first_to_enter_at-into.ensures ∙ ap (find (inside subtree)) c.requires.places ∙ first_entered_at st user subtree in
     subst (λ (moved : Option (List Op)). IfOk c.first_moved.result (λ found. found ≡ moved))
     (λ i. first_given (move_of st user subtree (out i) (into i)) (c.requires.pids i)) c.first_moved.ensures
