@@ -19,6 +19,7 @@ use cg_cgroup::told::{ToldFile, ToldFiles};
 use cg_cgroup::user::{Mode, User};
 use cg_counts::cgroups::Cgroups;
 use cg_model::hierarchy::Hierarchy;
+use cg_model::receiving::receiving;
 use cg_places::links::Tally;
 use cg_rows::processes::Processes;
 use cg_rows::rows::Rows;
@@ -190,6 +191,11 @@ impl Hierarchy for Indexed {
 
     fn paths(&self, alloc: Global) -> Result<Vec<Path>, NoMemory> {
         self.cgroups.paths(alloc)
+    }
+
+    fn receivers(&self, alloc: Global, user: &User) -> Result<Vec<Path>, NoMemory> {
+        let paths = self.paths(alloc)?;
+        receiving(alloc, self, user, &paths)
     }
 
     fn pids(&self, alloc: Global) -> Result<Vec<Pid>, NoMemory> {
