@@ -592,7 +592,6 @@ OF_JSON = {
     "lines are written where JSON is asked for": (".format == commands.JSON", ".format == 0"),
     "JSON is written where lines are asked for": (".format == commands.JSON", '.given.get("--format") is not None'),
     "a first pair is named by the uid alone": ('return names_first_alone(words) and "--settle" not in words', "return False"),
-    "a first pair has the status of the worst": ("status if answer is None else commands.STATUS[answer], fault", "status, fault"),
     "a pair has no gids where the user has none": (
         '"gids": [int(gid) for gid in gids.split(",") if gid]', '**({"gids": [int(gid) for gid in gids.split(",")]} if gids else {})'),
     "the gids of a pair are sorted": ('[int(gid) for gid in gids.split(",") if gid]', '[*sorted(int(gid) for gid in gids.split(",") if gid)]'),
