@@ -208,6 +208,33 @@ class LanesTest(unittest.TestCase):
         all_lanes.refill(30.0)
         self.assertFalse(mine.is_waiting)
 
+    def test_who_pays_for_the_whole_host(self):
+        """Whoever's checks ask for one, equal parts each, and it asks for another one by their time; nobody for that of each hour."""
+        to = lanes.Lanes(0.0)
+        made = argparse.Namespace(lanes=to, next_deep=0.0)
+        for person in (1000, lanes.HOST):
+            to.of(person, 0.0).add(b"/a", 0.0)
+            loop.Loop.ask_beyond(made, to.all[person].take())
+        asked = to.deep.take()
+        self.assertEqual((asked.part, asked.payers, to.deep.take().payers), (b"/", {1000, lanes.HOST}, set()))
+        to.spend(asked, 4.0, 0.0)
+        self.assertEqual([to.all[each].left - to.all[each].at_once for each in (1000, lanes.HOST, lanes.DEEP)], [-2.0, -2.0, 0.0])
+        loop.Loop.ask_beyond(made, asked)
+        self.assertEqual(to.deep.take().payers, asked.payers)
+        to.spend(asked._replace(payers=frozenset()), 4.0, 0.0)
+        self.assertEqual(to.all[1000].left, lanes.AT_ONCE - 2.0)
+
+    def test_who_makes_something_unsettled_all_the_time(self):
+        """They wait for a check of the whole host as for one of their own."""
+        to = lanes.Lanes(0.0)
+        made = argparse.Namespace(lanes=to, next_deep=0.0)
+        to.of(1000, 0.0).add(b"/a", 0.0)
+        loop.Loop.ask_beyond(made, to.all[1000].take())
+        to.spend(to.deep.take(), lanes.AT_ONCE + 2.0, 0.0)
+        to.all[1000].is_running = False
+        to.all[1000].add(b"/a", 0.0)
+        self.assertEqual((to.all[1000].due(), to.shallow(lanes.HOST)), (20.0, (1000,)))
+
     def test_root_has_more(self):
         """Three times what others have, and at once, too."""
         mine, other = lanes.Lane(lanes.HOST, 0.0), lanes.Lane(1000, 0.0)
@@ -521,6 +548,15 @@ class KnownTest(unittest.TestCase):
         part = WHOLE._replace(since=(known.Asked("/a", frozenset({"/a/b"})),))
         then = {("entry", "/a", "dir"): item("/a"), ("entry", "/a/b", "dir"): item("/a/b")}
         self.assertEqual(self.kinds(then, {("opened", "/a", "x"): item("/a")}, part)[0], [("mended", "/a/b")])
+
+    def test_what_nothing_more_can_settle(self):
+        """A look at all of the host leaves nothing to another one, also where somebody's was asked of meanwhile."""
+        now = {("subtree", "/c", ""): item("/c", Severity.UNSETTLED)}
+        for part, found in ((WHOLE, ([("new", "/c")], False)), (WHOLE._replace(without=frozenset({"/a"})), ([], True)),
+                            (WHOLE._replace(since=(known.Asked("/a", frozenset()),)), ([("new", "/c")], False))):
+            with self.subTest(part):
+                kinds, _, needs_whole = self.kinds({}, now, part)
+                self.assertEqual((kinds, needs_whole), found)
 
     def test_what_concerns_a_part(self):
         for asked, concerns in ((("/a", ()), True), (("/a/b/c", ()), True), (("/", ()), True), (("/", ("/a",)), False), (("/d", ()), False),

@@ -52,8 +52,13 @@ class Part(NamedTuple):
     since: Tuple[Asked, ...] = ()
 
     @property
+    def is_of_all(self) -> bool:
+        """Whether the whole host was looked at, inside of what everybody holds, so that a check of more can't settle what this one left."""
+        return is_root(self.path) and not self.without
+
+    @property
     def is_whole(self) -> bool:
-        return is_root(self.path) and not self.without and not self.since
+        return self.is_of_all and not self.since
 
     @property
     def asked(self) -> Asked:
@@ -136,7 +141,7 @@ def compared(known: Items, now: Items, part: Part) -> Compared:
             continue
         is_asked = any(each is not None and part.has(each.path) for each in (mine, then))
         kind = kind_within(mine, then, part) if is_asked else kind_above(mine, then)
-        if not part.is_whole and kind in (NEW, WORSE) and mine and mine.found.severity is Severity.UNSETTLED and key[0] in ANSWERED:
+        if not part.is_of_all and kind in (NEW, WORSE) and mine and mine.found.severity is Severity.UNSETTLED and key[0] in ANSWERED:
             needs_whole = True
             continue
         if mine is not None and then is not None:
@@ -152,7 +157,7 @@ def compared(known: Items, now: Items, part: Part) -> Compared:
             reported.update(() if key[0] == "subtree" else reported_with(mine, then))
     # of a subtree's row all that differs is reported with what it rests on, where that is reported
     changes = [each for each in changes if each.difference.what != "subtree" or each.path not in reported]
-    return Compared(tuple(changes), kept, needs_whole and not part.is_whole)
+    return Compared(tuple(changes), kept, needs_whole and not part.is_of_all)
 
 
 def reported_with(*items: Optional[Item]) -> Iterable[str]:

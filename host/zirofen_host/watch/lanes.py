@@ -6,7 +6,7 @@ found from the mount on: what is root's inside of what somebody holds is theirs.
 import bisect
 import os
 from collections import Counter
-from typing import Callable, Dict, Iterable, List, Mapping, NamedTuple, Optional, Tuple
+from typing import Callable, Dict, FrozenSet, Iterable, List, Mapping, NamedTuple, Optional, Set, Tuple
 
 from zirofen_host.collect.bounded import ChargedUser
 from zirofen_host.options import EVERYBODY
@@ -23,7 +23,7 @@ SHARE, AT_ONCE, TIMES_OF_ROOT = 0.1, 6.0, 3
 MOST_TOUCHED, MOST_DOERS = 512, 4
 # files that matter when they are written: which limit files there are, what of limits makes a subtree too large, and of which type it is
 WRITTEN = {b"cgroup.subtree_control", b"cgroup.max.depth", b"cgroup.max.descendants", b"cgroup.type"}
-# root's lane, and that of checks of the whole host, which are nobody's
+# root's lane, and that of checks of the whole host, which have the time of whoever's check asked for them
 HOST, DEEP = 0, -1
 # cgroups from which on what somebody holds is asked of in their own lane, and each hour
 MANY = 512
@@ -145,6 +145,8 @@ class Lane:
         self.is_whole, self.why = False, ""
         self.first, self.last = now, now
         self.touched: Dict[Place, Touched] = {}
+        # whose checks asked for one of the whole host
+        self.payers: Set[int] = set()
         self.events = 0
         self.is_running = False
 
@@ -220,8 +222,9 @@ class Lane:
 
     def take(self) -> "Asked":
         """What is to be asked now; what comes from here on waits for the next time."""
-        taken = Asked(self.person, self.part or ROOT, self.is_whole, self.why, self.first, self.touched)
-        self.part, self.is_whole, self.why, self.touched = None, False, "", {}
+        payers = self.payers if self.person == DEEP else {self.person}
+        taken = Asked(self.person, self.part or ROOT, self.is_whole, self.why, self.first, self.touched, frozenset(payers))
+        self.part, self.is_whole, self.why, self.touched, self.payers = None, False, "", {}, set()
         self.is_running = True
         return taken
 
@@ -234,6 +237,8 @@ class Asked(NamedTuple):
     why: str
     first: float
     touched: Dict[Place, Touched]
+    # who pays for it, each an equal part: nobody for a check of the whole host that no check asked for
+    payers: FrozenSet[int] = frozenset()
 
     @property
     def has_made_folders(self) -> bool:
@@ -262,6 +267,11 @@ class Lanes:
         if person not in self.all:
             self.all[person] = Lane(person, now)
         return self.all[person]
+
+    def spend(self, asked: Asked, seconds: float, now: float) -> None:
+        """Takes what a check took from those who pay for it."""
+        for person in asked.payers:
+            self.of(person, now).spend(seconds / len(asked.payers))
 
     def refill(self, now: float) -> None:
         """Gives each their share, and forgets whoever has all of it and nothing that waits."""

@@ -319,8 +319,9 @@ class Loop:
         self.poll.unregister(opened)
         made = run.child.made()
         run.lane.is_running = False
-        # nobody changed anything for the first
-        run.lane.spend(run.child.seconds if self.has_surveyed and run.lane.person != lanes.DEEP else 0.0)
+        if self.has_surveyed:
+            # nobody changed anything for the first
+            self.lanes.spend(run.asked, run.child.seconds, time.monotonic())
         if isinstance(made, Failed):
             self.failed(run, made)
             return
@@ -371,11 +372,18 @@ class Loop:
         if is_first:
             self.begin(run, made, then.needs_whole)
         elif then.needs_whole:
-            self.lanes.deep.give_back(run.asked)
-            self.lanes.deep.ask_whole(max(time.monotonic(), self.next_deep), "a check of the whole host")
-            self.next_deep = time.monotonic() + AFTER_DEEP
+            self.ask_beyond(run.asked)
         elif then.has_reported and not made.part.is_whole and self.outside.leave_numbers:
             run.lane.ask_whole(time.monotonic(), "a check that counts what is open", False)
+
+    def ask_beyond(self, asked: Asked) -> None:
+        """Has the whole host asked of what a check of a part left unsettled, by the time of whoever's check that was: else who makes
+        something unsettled again and again has all of it asked all the time."""
+        deep, now = self.lanes.deep, time.monotonic()
+        deep.give_back(asked)
+        deep.payers.update(asked.payers)
+        deep.ask_whole(max(now, self.next_deep), "a check of the whole host")
+        self.next_deep = now + AFTER_DEEP
 
     def waiting(self) -> Dict[lanes.Place, lanes.Touched]:
         """What happened to entries that wait to be asked of, or are asked of now; what a check of the whole host waits for was asked of."""
