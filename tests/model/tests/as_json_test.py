@@ -1,4 +1,6 @@
-"""Answers as JSON: those of the tables' calls and of random ones, held against their schema and the lines that they stand for."""
+"""Answers as JSON: those of the tables' calls, of rows and of random ones, held against their schema and the lines that they stand for; and of the
+tables' calls those of a program.
+"""
 import itertools
 import json
 import os
