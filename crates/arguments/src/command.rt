@@ -445,9 +445,7 @@ fn everybody_argument<'a>(alloc: Global) -> Arg<'a>
     Arg::new(alloc, "everybody")
         .long("everybody")
         .action(ArgAction::SetTrue)
-        .help(
-            "Asks of everybody but root in place of --uid, whoever there is",
-        )
+        .help("Asks of everybody but root in place of --uid, whoever there is")
 }
 
 fn subtrees_argument<'a>(alloc: Global) -> Arg<'a>

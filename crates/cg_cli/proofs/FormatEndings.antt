@@ -39,6 +39,7 @@ everybody_ending format wanted asked tree texts =
 -- ---- a replay
 
 unfolding replayed
+
 pieces_ending : (format : Format) (vocabulary : Vocabulary) (course : Course) (user : Identity) (done : ℕ) (pieces : List (List ℕ))
     → (replayed (in_format format vocabulary) course user done pieces).ending
     ≡ (replayed (in_format Lines vocabulary) course user done pieces).ending
@@ -52,6 +53,7 @@ pieces_ending format vocabulary course user done (piece ∷ next ∷ others) =
     (λ op. pieces_ending format vocabulary (on_course course user op) user (done + 1) (next ∷ others))
 
 unfolding bytes_said
+
 bytes_ending : (format : Format) (vocabulary : Vocabulary) (course : Course) (user : Identity) (done : ℕ) (bytes : List ℕ)
     → (bytes_said (in_format format vocabulary) course user done bytes).ending
     ≡ (bytes_said (in_format Lines vocabulary) course user done bytes).ending

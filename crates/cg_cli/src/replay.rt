@@ -29,8 +29,7 @@ mod reader;
 mod run;
 
 pub use line::line_end;
-pub use reader::replay_from;
-pub use reader::replay_from_in;
+pub use reader::{replay_from, replay_from_in};
 
 /// Replays operations and writes a line for each: its outcome. Where a subtree is named, a last line says whether it was
 /// kept, with status 0, or what was broken first and after how many steps, with status 1. Else the status is 0.

@@ -19,7 +19,6 @@ use cg_cgroup::told::{ToldFile, ToldFiles};
 use cg_cgroup::user::{Mode, User};
 use cg_counts::cgroups::Cgroups;
 use cg_model::hierarchy::Hierarchy;
-use cg_model::receiving::receiving;
 use cg_places::links::Tally;
 use cg_rows::processes::Processes;
 use cg_rows::rows::Rows;
@@ -194,8 +193,7 @@ impl Hierarchy for Indexed {
     }
 
     fn receivers(&self, alloc: Global, user: &User) -> Result<Vec<Path>, NoMemory> {
-        let paths = self.paths(alloc)?;
-        receiving(alloc, self, user, &paths)
+        self.cgroups.receivers(alloc, user)
     }
 
     fn pids(&self, alloc: Global) -> Result<Vec<Pid>, NoMemory> {

@@ -83,9 +83,10 @@ module _ {K X : Type 0} (R : K → K → Ordering) where
   -- each entry is found by its key
   all_found : IsTotalOrder R → (es : List (K × X)) → T (is_sorted R es) → AllByRecursion (λ e. find R e.0 es ≡ Some e.1) es
   all_found o [] sorted = tt
-  all_found o (e ∷ es) sorted =
-      (ap (λ r. cond (is_eq r) (Some e.1) (find R e.0 es)) (tied_itself o e.0),
-      all-each (λ d. find R d.0 es ≡ Some d.1) (λ d. find R d.0 (e ∷ es) ≡ Some d.1) behind es (all_found o es (second_of_both _ _ sorted)))
+  all_found o (e ∷ es) sorted = (
+    ap (λ r. cond (is_eq r) (Some e.1) (find R e.0 es)) (tied_itself o e.0),
+    all-each (λ d. find R d.0 es ≡ Some d.1) (λ d. find R d.0 (e ∷ es) ≡ Some d.1) behind es (all_found o es (second_of_both _ _ sorted)),
+  )
     where
       behind : (d : K × X) → find R d.0 es ≡ Some d.1 → find R d.0 (e ∷ es) ≡ Some d.1
       behind d found =

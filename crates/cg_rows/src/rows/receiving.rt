@@ -1,5 +1,5 @@
 //! Where processes may come, by the entries.
-ghost use Rattle.std.specs.Prelude.{◌≡◌, ◌++◌, drop, filter, map, IfOk};
+ghost use Rattle.std.specs.Prelude.{◌≡◌, filter, map, IfOk};
 ghost use Rattle.cg_model.specs.Receiving.{row_receives};
 
 use cg_cgroup::cgroup::Cgroup;

@@ -25,7 +25,7 @@ returns g c =
     let old = g.W.Write.contents c.args.out.now in
     let new = g.W.Write.contents c.write_listing.new.out in (
       by_pairs (listing_in c.args.self.now.format) st subtrees (pairs_listed st (paired users subtrees)) c.in_default.ensures.fault old
-      new c.write_listing.result
+          new c.write_listing.result
           (subst (λ (l : List Pair). ReportsPairsBy (listing_in c.args.self.now.format) (Ok (pairs_listed st l)) old new
           c.write_listing.result)
           (ap (map pair_of) c.as_slice.ensures.value ∙ c.in_ok-pairs.ensures) c.write_listing.ensures),
