@@ -224,6 +224,16 @@ class LanesTest(unittest.TestCase):
         to.spend(asked._replace(payers=frozenset()), 4.0, 0.0)
         self.assertEqual(to.all[1000].left, lanes.AT_ONCE - 2.0)
 
+    def test_who_pays_for_one_that_failed_pays_for_the_next(self):
+        to = lanes.Lanes(0.0)
+        made = argparse.Namespace(lanes=to, next_deep=0.0, has_surveyed=True, has_begun=True, is_there=lambda _: True,
+                                  limit=lambda *_: None)
+        to.of(1000, 0.0).add(b"/a", 0.0)
+        loop.Loop.ask_beyond(made, to.all[1000].take())
+        run = argparse.Namespace(asked=to.deep.take(), lane=to.deep)
+        loop.Loop.failed(made, run, checks.Failed("it took too long"))
+        self.assertEqual(to.deep.take().payers, {1000})
+
     def test_who_makes_something_unsettled_all_the_time(self):
         """They wait for a check of the whole host as for one of their own."""
         to = lanes.Lanes(0.0)

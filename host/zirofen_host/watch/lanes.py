@@ -238,7 +238,7 @@ class Asked(NamedTuple):
     first: float
     touched: Dict[Place, Touched]
     # who pays for it, each an equal part: nobody for a check of the whole host that no check asked for
-    payers: FrozenSet[int] = frozenset()
+    payers: FrozenSet[int]
 
     @property
     def has_made_folders(self) -> bool:

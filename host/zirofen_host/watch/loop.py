@@ -362,6 +362,7 @@ class Loop:
             return
         self.limit(f"check {failed.why}", f"a check of {shown(text_of(run.asked.part))} found nothing: {failed.why}")
         self.has_begun |= run.lane.person == lanes.DEEP
+        run.lane.payers.update(run.asked.payers)
         run.lane.add(run.asked.part, time.monotonic() + MINUTE)
 
     def compare(self, run: Running, made: Result) -> None:
