@@ -142,6 +142,10 @@ class GateTest(ToolchainTest):
         self.assertRegex(said, r"called: build low --jobs [1-4] --incremental \S+/low\n")
         self.assertRegex(said, r"called: build program --jobs [1-4]\n")
 
+    def test_two_that_are_said_to_be_proved_on_one_line(self):
+        said = "gate: low is proved, by what is kept: in 3 s on 2026-12-01gate: high is proved, in 4 s from 2 s on, --jobs 1\nrt: low proved"
+        self.assertEqual(kit.PROVED.findall(said), ["low", "high"])
+
     def test_a_proof_that_was_killed_and_made_again(self):
         self.bring(NEW, SCRIPT.replace("KILLED = []", "KILLED = ['low']"))
         said = self.prove().stdout

@@ -52,7 +52,9 @@ MADE = [("delegation", "", ["check", *ONE]), ("delegation-limit-writable", "", [
         ("delegation", "pair 1000 /c0\n", ["audit", "--pairs", "PAIRS"]),
         ("delegation", "/c0\n/c1\n", ["audit", "--everybody", "--subtrees", "SUBTREES"]),
         ("delegation-ancestor-owned", "/c0\n/c1\n", ["advise", "--everybody", "--subtrees", "SUBTREES"]),
-        ("delegation", "", ["explain", "--everybody", "--subtree", "/c0"])]
+        ("delegation", "", ["explain", "--everybody", "--subtree", "/c0"]),
+        ("delegation-ancestor-owned", "", ["check", "--format", "json", *ONE]),
+        ("delegation", "exit 11\nmkdri /c0/a\n", ["replay", "--format", "json", "--uid", "1000", "--ops", "OPS"])]
 
 
 def tree_of(name):

@@ -357,8 +357,10 @@ class PackageTest(unittest.TestCase):
         return set(run("bash", "-c", code).stdout.split())
 
     def test_completions_are_offered_by_real_shells(self):
+        has_format = "--format" in self.program.help("check")
         for shell in ("bash", "fish"):
             with self.subTest(shell):
+                self.assertEqual(self.complete(shell, "check", "--format", ""), {"lines", "json"} if has_format else set())
                 self.assertLessEqual({"may", "check", "audit", "replay"}, self.complete(shell, ""))
                 self.assertLessEqual({"--uid", "--subtree", "--tree"}, self.complete(shell, "check", "--"))
                 self.assertNotIn("--subtree", self.complete(shell, "may", "--"))
@@ -390,6 +392,10 @@ class PackageTest(unittest.TestCase):
                 self.assertIn(f"usr/share/man/man{number}/{name}.{number}.gz", self.files)
             for path in re.findall(r"\b(?:docs|examples)/[\w.-]*", self.program.help(*words)):
                 self.assertTrue(any(it.startswith(f"{package.DOCS}/{path}") for it in self.files), path)
+
+    def test_what_the_page_names_of_json_is_installed(self):
+        self.assertIn("/usr/share/doc/zirofen/docs/answers.schema.json", self.page("man1/zirofen.1").replace("\\-", "-"))
+        self.assertIn("usr/share/doc/zirofen/docs/answers.schema.json", self.files)
 
     def test_what_the_helpers_help_names_is_installed(self):
         for name in package.helpers():

@@ -78,6 +78,14 @@ class TextTest(unittest.TestCase):
                                                  " -- They <they@it>  Wed, 25 Nov 2026 12:00:00 +0000"])
         self.assertIn("it (0.1.0-1) unstable", told)
 
+    def test_formats_are_those_of_help(self):
+        told = "How the answer is written: lines, or json for a JSON object a line; lines where this is left out"
+        option = completions.Option("--format", "FORMAT", told)
+        self.assertEqual(option.choices, ["lines", "json"])
+        known = {"look": ("Looks", [option])}
+        for shell, words in ((completions.bash, "compgen -W 'lines json'"), (completions.zsh, ":format:(lines json)"), (completions.fish, "-x -a 'lines json'")):
+            self.assertIn(words, shell("it", known))
+
     def test_commands_and_options_are_those_of_help(self):
         known = completions.read(lambda *words: LOOK if words else HELP)
         self.assertEqual(known, {"look": ("Looks: at something", [

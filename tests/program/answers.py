@@ -11,6 +11,7 @@ sys.dont_write_bytecode = True
 import of_one
 from case import EXAMPLES, PIPE, TOP, Case, call, run
 from format_4_rows import rows as format_4_rows
+from json_rows import rows as json_rows
 
 MOVED_IN = b"move 10 /c0\n"
 CUT = b"exit 11\nmkdir /c0/a"
@@ -347,6 +348,7 @@ def cases(program):
     for table in command_lines, migrations, of_one_subtree, explained, audits, paired, everybody, named_by_lines, advices, replays, upgrades:
         yield from table(program)
     yield from format_4_rows()
+    yield from json_rows(program)
 
 
 if __name__ == "__main__":

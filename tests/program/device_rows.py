@@ -207,6 +207,34 @@ ASKED = (
     ("delegation-second-user", "explain --tree {tree} --uid 1000 --uid 1001 --subtree /c0 --subtree /c1", 1),
     ("parent-procs-no-process", "explain --uid 1000 --subtree /p/s", 2),
     ("build-io-cpuset", "explain --uid 1001 --subtree /build.slice/nightly", 1),
+    # as JSON each kind of object, and some faults
+    ("delegation", "may --format json --uid 1000 --pid 11 --to /c0/c01", 0),
+    ("delegation", "may --format json --tree {tree} --uid 1000 --pid 10 --to /c0/c00", 1),
+    ("delegation", "check --format json --uid 1000 --subtree /c0", 0),
+    ("delegation-ancestor-owned", "check --format json --tree {tree} --uid 1000 --subtree /c0", 1),
+    ("build-io-cpuset", "check --format json --uid 1001 --subtree /build.slice/nightly", 1),
+    ("service-limits-handed-over", "check --format json --uid 880 --gid 880 --subtree /system.slice/transcode.service", 1),
+    ("parent-procs-owned", "check --format json --uid 1000 --subtree /p/s", 2),
+    ("delegation-parent-directory", "settle --format json --uid 1000 --subtree /c0", 1),
+    ("delegation-second-user", "audit --format json --uid 1000 --uid 1001:1001 --subtree /c0 --subtree /c1", 1),
+    ("delegation", "audit --format json --all --uid 1000 --uid 1001 --subtree /c0 --subtree /c1", 0),
+    ("delegation-ancestor-owned", "audit --format json --all --uid 1000 --uid 1001 --subtree /c0 --subtree /c1", 1),
+    ("delegation-parent-directory", "audit --format json --settle --all --uid 1000 --uid 1001 --subtree /c0", 1),
+    ("delegation-second-user", "audit --format json --tree {tree} --pairs {pairs}", 1),
+    ("delegation-ancestor-owned", "audit --format json --everybody --subtree /c0 --subtree /c1", 1),
+    ("delegation", "audit --format json --everybody --subtrees {subtrees} --but 7 --group 5=6,7", 0),
+    ("delegation-ancestor-owned", "advise --format json --uid 1000 --uid 1001 --subtree /c0", 1),
+    ("delegation-over-limit", "advise --format json --uid 1000 --subtree /c0", 1),
+    ("parent-procs-owned", "advise --format json --settle --uid 1000 --subtree /p/s", 0),
+    ("delegation-ancestor-owned", "advise --format json --everybody --subtree /c0", 1),
+    ("delegation-second-user", "explain --format json --uid 1000 --uid 1001 --subtree /c0 --subtree /c1", 1),
+    ("build-io-cpuset", "explain --format json --tree {tree} --uid 1001 --subtree /build.slice/nightly", 1),
+    ("delegation-second-user", "explain --format json --everybody --tree {tree} --subtree /c0", 1),
+    ("delegation", "replay --format json --uid 1000 --subtree /c0 --ops {filled}", 0),
+    ("empty-parent-directory", "replay --format json --uid 1000 --subtree /c0 --ops {gone}", 1),
+    ("delegation", "replay --format json --uid 1000 --subtree /c0 --ops {cut}", 3),
+    ("delegation", "audit --format json --uid 1000 --subtree /c0 --subtree /zz", 3),
+    ("delegation", "check --format yaml --uid 1000 --subtree /c0", 3),
 )
 COMMANDS = ("may", *of_one.OF_ONE, "audit", "explain", "replay", "upgrade", "advise")
 HELP = ("--help", "--version", "may --help", "replay --help")
@@ -225,7 +253,7 @@ def ended(program, words, tree):
 
 def knows(program, words):
     """Whether the program has a command, and the option behind it where there is one."""
-    words = [words[0], *(word for word in words if word in ("--all", "--pairs", "--everybody", "--subtrees"))]
+    words = [words[0], *(word for word in words if word in ("--all", "--pairs", "--everybody", "--subtrees", "--format"))]
     told = ended(program, [words[0], "--help"], None)
     return told.returncode == 0 and all(word.encode() in told.stdout for word in words[1:])
 

@@ -83,10 +83,10 @@ class Runner:
 
 def is_front(row, ended):
     """Whether what was written is what the row says before a fault: nothing, of a replay and of all pairs some first lines, or of
-    pairs that are explained some first pairs."""
-    if row.words[0] == "explain":
+    pairs that are explained some first pairs, of which as JSON each is a line."""
+    if row.words[0] == "explain" and "--format" not in row.words:
         return row.out.startswith(ended.out) and (not ended.out or row.out[len(ended.out):].startswith(b"pair "))
-    if row.words[0] == "replay" or row.words[0] == "audit" and {"--all", "--pairs"} & {*row.words}:
+    if row.words[0] in ("replay", "explain") or row.words[0] == "audit" and {"--all", "--pairs"} & {*row.words}:
         return row.out.startswith(ended.out) and ended.out[-1:] in (b"", b"\n")
     return ended.out == b""
 

@@ -8,6 +8,7 @@ are counted apart. Each tree has a command, and so has the help of each command.
 """
 import glob
 import itertools
+import json
 import os
 import shlex
 import subprocess
@@ -18,7 +19,7 @@ from case import TOP
 
 HEAD_INDENT = "#     "
 HELP_INDENT = "  "
-PAGES, PAGE_INDENT = ("README.md", "docs/FORMATS.md", "docs/QUESTIONS.md"), "    "
+PAGES, PAGE_INDENT = ("README.md", "docs/FORMATS.md", "docs/PROGRAMS.md", "docs/QUESTIONS.md"), "    "
 SAMPLE = "examples/user-manager.toml"
 STATUS = {"granted": 0, "contained": 0, "kept": 0, "ok": 0, "refused": 1, "escapes": 1, "broken": 1, "pair": 1,
           "unsettled": 2, "fails": 1, "fault:": 3}
@@ -55,7 +56,7 @@ def status_of(words, lines):
     if words[0] == "replay" and "--subtree" not in words and not lines[-1].startswith("fault:"):
         return 0
     answer = lines[-1] if words[0] in ("replay", "explain") else lines[1] if lines[0].startswith("pair ") else lines[0]
-    return STATUS[answer.split(" ")[0]]
+    return STATUS[json.loads(answer)["answer"] if answer.startswith("{") else answer.split(" ")[0]]
 
 
 def is_right(words, lines):
@@ -102,6 +103,13 @@ def known_commands():
     return [line.split()[0] for line in listed if line.split()[0] != "help"]
 
 
+def lacking(words, known):
+    """What a command has that the program hasn't, or nothing."""
+    if words[0] not in known:
+        return words[0]
+    return next((word for word in words[1:] if word == "--format" and not any(word in line for line in help_lines(words[0]))), "")
+
+
 def all_examples(known):
     """Each place that has examples, with its commands."""
     for file in sorted(glob.glob(f"{TOP}/examples/*.toml")):
@@ -121,8 +129,8 @@ def main():
             print(f"examples: FAILED: {place} has no command")
             failed += 1
         for words, lines in commands:
-            if words[0] not in known:
-                waiting.append(words[0])
+            if lacking(words, known):
+                waiting.append(lacking(words, known))
             elif is_right(words, lines):
                 passed += 1
             else:

@@ -13,6 +13,7 @@ from dataclasses import dataclass
 
 sys.dont_write_bytecode = True
 from case import Ended, run
+from json_rows import FORMAT, JSON, has_format
 from of_one import FURTHER, OF_ONE
 
 TREE = """format = 2
@@ -524,7 +525,34 @@ def operations_of_format_4():
         yield Row([*REPLAY[:4], "-", "--tree", "TREE"], "line 1 bad-word", [said], FOUR, input=ops)
 
 
-def rows(_):
+def formats():
+    """How an answer is to be written, as it is mistyped, and what is said below a fault where JSON is asked for."""
+    yield Row([*CHECK, FORMAT], "usage", ["a value is required for '--format <FORMAT>'"])
+    yield Row([*CHECK, *JSON, *JSON], "usage", ["--format <FORMAT>", "multiple times"])
+    yield Row(["check", "--fromat", "json", *CHECK[1:]], "usage", ["'--fromat'", "--format"])
+    yield Row(["upgrade", *JSON], "usage", ["unexpected argument '--format'"])
+    for words in (CHECK, *OF_TREE, EVERYBODY, MAY, REPLAY, [*SUBTREES[:3], "TREE"], ["audit", "--pairs", "TREE"]):
+        yield Row([*words, FORMAT, "yaml"], "usage", ["--format takes lines, or json"])
+    yield Row(["check", *JSON, "--uid", "1000", "--subtree", "/c9"], "subtree missing", ["'/c9' has to be the path of a row of the tree; the nearest is '/c0'"])
+    yield Row(["check", *JSON, "--uid", "0", "--subtree", "/c0"], "uid", ["root"])
+    yield Row([*REPLAY, *JSON], "line 1 bad-word", ["mvoe 10 /c0", "'mvoe': write move"], ops="mvoe 10 /c0\n")
+
+
+def beside_json():
+    """What is said beside an answer that is JSON."""
+    for words in (CHECK, *OF_TREE, EVERYBODY, MAY, REPLAY):
+        yield Row([*words, *JSON], None, ["mode 400 is 0o620"], edited("mode = 0o644", "mode = 400"))
+        yield Row([*words, *JSON], None)
+    stranger = "uid 1001 and its gids own nothing in this tree"
+    for words in (CHECK, *OF_TREE):
+        yield Row(["1001" if word == "1000" else word for word in [*words, *JSON]], None, [stranger])
+    yield Row([*MAY[:-1], "/c9", *JSON], None, ["'/c9' has to be the path of a row of the tree"])
+    yield Row([*CHECK, *JSON], None, terminal="the tree is read from this terminal: end it with Ctrl-D, or name a file with --tree")
+
+
+def rows(program):
+    if program is None or has_format(program):
+        yield from (*formats(), *beside_json())
     yield from (*command_lines(), *arguments(), *trees(), *strangers(), *modes(), *missing_paths(), *terminals(), *slips(), *pairs(), *subtrees(), *operations())
 
 

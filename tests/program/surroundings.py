@@ -31,6 +31,8 @@ CALLS = [
     Call("service-limits", ["upgrade"]),
     Call("delegation-ancestor-owned", ["advise", "--uid", "1000", "--subtree", "/c0"]),
     Call("delegation-over-limit", ["check", "--uid", "1000", "--subtree", "/c0"]),
+    Call("delegation-ancestor-owned", ["audit", "--format", "json", "--all", "--uid", "1000", "--uid", "1001", "--subtree", "/c0", "--subtree", "/c1"]),
+    Call("delegation", ["explain", "--format", "json", "--uid", "1000", "--subtree", "/c0"]),
     Call("delegation", ["check", "--uid", "x"]),
     Call("delegation", ["frobnicate"]),
     Call("delegation", ["--help"]),

@@ -12,6 +12,7 @@ from dataclasses import dataclass, field
 
 sys.dont_write_bytecode = True
 from case import DELEGATION, Ended, run
+from json_rows import FORMAT, has_format
 from of_one import OF_ONE
 
 CHECK = ["check", "--uid", "1000", "--subtree", "/c0"]
@@ -23,6 +24,12 @@ NO_NUMBERS = ["", " ", "+0", "+5", "+1000", "+01000", "-00", "x", "4294967296", 
 LISTED = ["1000:5", "1000:5,6", "1000:005,0", "1000:" + ",".join(["5"] * 32)]
 NOT_LISTED = ["1000:", "1000:,", "1000:5,", "1000:,5", ":5", ":", "1000:5:6", "1000: 5", "1000:+5", "+1000:5", "1000:-0", "1000:4294967296",
               "1000:5,4294967296", "1000;5", "1000:5;6", "1000:x", "x:5"]
+# what says how an answer is written, and what doesn't
+FORMATS = [[f"{FORMAT}=json"], [f"{FORMAT}=lines"], [FORMAT, "json"], [FORMAT, "lines"]]
+NO_FORMATS = [[FORMAT], [FORMAT, ""], [f"{FORMAT}="], [FORMAT, "-"], [FORMAT, "--"], *([FORMAT, word] for word in (
+    "JSON", "Json", "json ", " json", "js", "jsonl", "lines ", "line", "text", "toml", "0", "json,lines", "json\n", "\uff4ason")),
+    [f"{FORMAT}==json"], [f"{FORMAT}=-json"], [FORMAT, "json", FORMAT, "json"], [FORMAT, "json", FORMAT, "lines"], [f"{FORMAT}=json", f"{FORMAT}=json"],
+    ["--form", "json"], ["--f=json"], ["--formats", "json"], ["--Format", "json"], ["-f", "json"], ["-format", "json"], ["--json"], ["json"]]
 # what asks for help or the version, and what seems to
 SHOWN = ["help", "help check", "help help", "--help", "-h", "check --help", "audit -h", "--version", "-V"]
 NOT_SHOWN = ["", "help nonsense", "help check nonsense", "help --help", "help help nonsense", "nonsense", "check nonsense", "check -V"]
@@ -199,8 +206,24 @@ def dashes():
         yield Answered(words, given, output, files=files)
 
 
-def cases(_):
+def of_formats():
+    """The option in front of each command's words and behind them, and `upgrade`, which has none."""
+    asks = [["may", *CHECK[1:3], "--pid", "11", "--to", "/c0"], [*REPLAY, os.devnull], *([command, *CHECK[1:]] for command in (
+        *OF_ONE, "audit", "advise", "explain")), *([command, *words] for command in ("audit", "advise", "explain") for words in (
+            ["--everybody", "--subtree", "/c0"], ["--pairs", os.devnull], ["--everybody", "--subtrees", os.devnull]))]
+    for words in asks:
+        for is_usage, formats in ((False, FORMATS), (True, NO_FORMATS)):
+            yield from ((found, is_usage) for some in formats for found in ([words[0], *some, *words[1:]], [*words, *some]))
+        yield from (([*words, FORMAT, word], True) for word in NOT_UTF_8)
+    for some in FORMATS:
+        yield ["upgrade", *some], True
+        yield [*some, *CHECK], True
+
+
+def cases(program):
     yield from (Spelled(*row) for row in rows())
+    if has_format(program):
+        yield from (Spelled(*row) for row in of_formats())
     yield from names()
     yield from dashes()
 

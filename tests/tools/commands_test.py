@@ -11,6 +11,7 @@ sys.path[:0] = [os.path.join(TOP, folder) for folder in ("tests/model", "tests/p
 import answers  # noqa: E402
 import device_rows  # noqa: E402
 import help as told_below  # noqa: E402
+import json_rows  # noqa: E402
 import trial_rows  # noqa: E402
 import words  # noqa: E402
 from second import commands  # noqa: E402
@@ -50,13 +51,21 @@ class CommandsTest(unittest.TestCase):
         for table, found in listed.items():
             self.assertEqual(self.commands - found, set(), table)
 
+    def test_tables_of_json(self):
+        asked = {name for name, options in self.options.items() if "--format" in options}
+        self.assertEqual(asked - {it.words[0] for it in json_rows.rows(PROGRAM) if it.lines}, set())
+        self.assertEqual(asked - {it[1].split()[0] for it in device_rows.ASKED if "--format json" in it[1]}, set())
+        self.assertEqual(asked - {it[0] for it, is_usage in words.of_formats() if not is_usage}, set())
+
     def test_words_that_are_numbers(self):
         asked = {it[0] for it, _ in words.spelled() if it and isinstance(it[0], str)}
         self.assertEqual({name for name, options in self.options.items() if "--uid" in options} - asked, set())
 
     def test_second_model(self):
         self.assertEqual(commands.OPTIONS.keys(), self.commands)
-        self.assertEqual({name: set(options) for name, options in commands.OPTIONS.items()}, self.options)
+        # a released program may be from before that option
+        later = set() if json_rows.has_format(PROGRAM) else {"--format"}
+        self.assertEqual({name: set(options) - later for name, options in commands.OPTIONS.items()}, self.options)
         self.assertEqual(commands.REPORTS.keys(), self.commands)
         self.assertEqual({it.split()[0] for it in cases.MAKERS}, self.commands)
 

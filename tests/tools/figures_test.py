@@ -30,8 +30,8 @@ class FiguresTest(unittest.TestCase):
 
     def test_rows_of_help(self):
         mistyped = [*told_below.command_lines(), *told_below.arguments(), *told_below.trees(), *told_below.slips(), *told_below.pairs(),
-                    *told_below.subtrees(), *told_below.operations()]
-        others = [*told_below.strangers(), *told_below.modes(), *told_below.missing_paths(), *told_below.terminals()]
+                    *told_below.subtrees(), *told_below.operations(), *told_below.formats()]
+        others = [*told_below.strangers(), *told_below.modes(), *told_below.missing_paths(), *told_below.terminals(), *told_below.beside_json()]
         self.assert_told(r"what (\d+) mistyped command lines, .* beside (\d+) other answers and faults", len(mistyped), len(others))
         self.assertEqual(len(mistyped) + len(others), len([*told_below.rows(None)]))
 

@@ -20,9 +20,11 @@ class Option(namedtuple("Option", "name value told")):
 
     @property
     def choices(self):
-        """The words that it takes, where these are all: as {A,B} in place of a value, or of a KIND in what is said of it."""
+        """The words that it takes, where these are all: as {A,B} in place of a value, or of a KIND or a FORMAT in what is said of it."""
         if self.value.startswith("{"):
             return self.value.strip("{}").split(",")
+        if self.value == "FORMAT":
+            return [*re.search(r": (\w+), or (\w+) ", self.told).groups()]
         if self.value != "KIND":
             return []
         listed = re.match(r"((?:\w+, )+)or KIND=FILE", self.told)

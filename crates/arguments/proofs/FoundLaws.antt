@@ -6,6 +6,7 @@ use Rattle.clap.specs.Matches.{matched_of, first_value, one_text, raw_values}
 use Rattle.clap.specs.Walk.{rows_of, first_of, one_of, all_of}
 use Rattle.clap.specs.declared.parser.matches.Found.{Found}
 use Rattle.clap.proofs.WalkLemmas.{first_value-rows, one_text-rows, raw_values-rows}
+use Rattle.arguments.specs.Formats.{format_said, format_at}
 use Rattle.arguments.specs.UserWords.{id_at, ids_at, all_read, user_at, group_at}
 use Rattle.arguments.specs.Given.{words_at, file_named, file_at, number_at, numbers_at, user_given, users_given, users_beside, advised_given, everyone_given, NoneIsLeftOut, IsOfPairs, Holds}
 use Rattle.arguments.specs.declared.request.Pairs.{Pairs}
@@ -36,6 +37,9 @@ module _ (f g : Found) (same : rows_of f ≡ rows_of g) where
 
   file_same : (id : List ℕ) → file_at f id ≡ file_at g id
   file_same id = ap (λ (word : Option (List ℕ)). option_and_then file_named word) (first_same id)
+
+  format_same : format_at f ≡ format_at g
+  format_same = ap format_said (first_same (codes "format"))
 
   number_same : (id : List ℕ) → number_at f id ≡ number_at g id
   number_same id = ap (λ (word : Option (List ℕ)). option_and_then id_at word) (first_same id)
@@ -74,6 +78,7 @@ module _ (f g : Found) (same : rows_of f ≡ rows_of g) where
     no_settle = λ said. h.no_settle (first_same (codes "settle") ∙ said);
     not_everybody = λ said. h.not_everybody (first_same (codes "everybody") ∙ said);
     all_meant = none_left_out h.all_meant;
+    format = sym format_same ∙ h.format;
   }
 
   pub holds_same : (asked : Request) → Holds f asked → Holds g asked
@@ -83,16 +88,19 @@ module _ (f g : Found) (same : rows_of f ≡ rows_of g) where
     user = sym user_same ∙ h.user;
     pid = sym (number_same (codes "pid")) ∙ h.pid;
     to = sym (first_same (codes "to")) ∙ h.to;
+    format = sym format_same ∙ h.format;
   }
   holds_same (request.Check check) h = record {
     tree = h.tree ∙ file_same (codes "tree");
     user = sym user_same ∙ h.user;
     subtree = sym (first_same (codes "subtree")) ∙ h.subtree;
+    format = sym format_same ∙ h.format;
   }
   holds_same (request.Settle check) h = record {
     tree = h.tree ∙ file_same (codes "tree");
     user = sym user_same ∙ h.user;
     subtree = sym (first_same (codes "subtree")) ∙ h.subtree;
+    format = sym format_same ∙ h.format;
   }
   holds_same (request.Audit audit) h = record {
     tree = h.tree ∙ file_same (codes "tree");
@@ -106,6 +114,7 @@ module _ (f g : Found) (same : rows_of f ≡ rows_of g) where
     no_subtrees = sym (first_same (codes "subtrees")) ∙ h.no_subtrees;
     not_everybody = λ said. h.not_everybody (first_same (codes "everybody") ∙ said);
     all_meant = none_left_out h.all_meant;
+    format = sym format_same ∙ h.format;
   }
   holds_same (request.Everybody asked) h = record {
     tree = h.tree ∙ file_same (codes "tree");
@@ -119,6 +128,7 @@ module _ (f g : Found) (same : rows_of f ≡ rows_of g) where
     no_pairs = sym (first_same (codes "pairs")) ∙ h.no_pairs;
     no_all = λ said. h.no_all (first_same (codes "all") ∙ said);
     no_settle = λ said. h.no_settle (first_same (codes "settle") ∙ said);
+    format = sym format_same ∙ h.format;
   }
   holds_same (request.Subtrees asked) h = record {
     tree = h.tree ∙ file_same (codes "tree");
@@ -132,6 +142,7 @@ module _ (f g : Found) (same : rows_of f ≡ rows_of g) where
     no_pairs = sym (first_same (codes "pairs")) ∙ h.no_pairs;
     no_all = λ said. h.no_all (first_same (codes "all") ∙ said);
     no_settle = λ said. h.no_settle (first_same (codes "settle") ∙ said);
+    format = sym format_same ∙ h.format;
   }
   holds_same (request.AuditPairs pairs) h = pairs_same pairs h
   holds_same (request.Explain explain) h = record {
@@ -144,6 +155,7 @@ module _ (f g : Found) (same : rows_of f ≡ rows_of g) where
     no_subtrees = sym (first_same (codes "subtrees")) ∙ h.no_subtrees;
     not_everybody = λ said. h.not_everybody (first_same (codes "everybody") ∙ said);
     all_meant = none_left_out h.all_meant;
+    format = sym format_same ∙ h.format;
   }
   holds_same (request.ExplainPairs pairs) h = pairs_same pairs h
   holds_same (request.Advise advise) h = record {
@@ -157,6 +169,7 @@ module _ (f g : Found) (same : rows_of f ≡ rows_of g) where
     not_everybody = λ said. h.not_everybody (first_same (codes "everybody") ∙ said);
     all_meant = none_left_out h.all_meant;
     settle = ((λ said. h.settle.0 (text_same (codes "settle") ∙ said)), (λ said. h.settle.1 (text_same (codes "settle") ∙ said)));
+    format = sym format_same ∙ h.format;
   }
   holds_same (request.AdvisePairs pairs) h = pairs_same pairs h
   holds_same (request.Replay replay) h = record {
@@ -164,5 +177,6 @@ module _ (f g : Found) (same : rows_of f ≡ rows_of g) where
     ops = h.ops ∙ file_same (codes "ops");
     user = sym user_same ∙ h.user;
     subtree = h.subtree ∙ first_same (codes "subtree");
+    format = sym format_same ∙ h.format;
   }
   holds_same (request.Upgrade upgrade) h = record { tree = h.tree ∙ file_same (codes "tree") }

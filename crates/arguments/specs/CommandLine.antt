@@ -29,9 +29,11 @@ repeated rule = record rule { action = Some Append }
 abbrev pub command_with : Text → List Rule → Shape
 command_with name options = record (new_shape name) { rules = options }
 
--- the tree, and a user
+-- the tree, a user, and how the answer is written
 abbrev pub of_user : List Rule
-of_user = word_option (codes "tree") ∷ needed (number_option (codes "uid")) ∷ repeated (number_option (codes "gid")) ∷ []
+of_user =
+    word_option (codes "tree") ∷ needed (number_option (codes "uid")) ∷ repeated (number_option (codes "gid"))
+    ∷ word_option (codes "format") ∷ []
 
 abbrev pub may_command : Shape
 may_command = command_with (codes "may") (of_user ++ needed (number_option (codes "pid")) ∷ needed (word_option (codes "to")) ∷ [])
@@ -44,7 +46,7 @@ subtree_command name = command_with name (of_user ++ needed (word_option (codes 
 abbrev pub pairs_command : Text → Shape
 pairs_command name = command_with name
     (word_option (codes "tree") ∷ repeated (word_option (codes "uid")) ∷ repeated (word_option (codes "subtree"))
-    ∷ word_option (codes "pairs") ∷ [])
+    ∷ word_option (codes "pairs") ∷ word_option (codes "format") ∷ [])
 
 -- everybody in place of users
 abbrev pub of_everybody : List Rule
@@ -72,7 +74,9 @@ advise_named = command_with (codes "advise")
     ∷ repeated (word_option (codes "subtree")) ∷ [])
 
 abbrev pub advise_options : Shape
-advise_options = record advise_named { rules = advise_named.rules ++ word_option (codes "pairs") ∷ flag (codes "settle") ∷ [] }
+advise_options = record advise_named {
+  rules = advise_named.rules ++ word_option (codes "pairs") ∷ flag (codes "settle") ∷ word_option (codes "format") ∷ [];
+}
 
 abbrev pub advise_command : Shape
 advise_command = with_everybody advise_options

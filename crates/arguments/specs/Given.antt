@@ -6,6 +6,7 @@ use Rattle.clap.specs.Matches.{matched_of, first_value, one_text, raw_values, su
 use Rattle.clap.specs.Words.{rows_of, subcommand_rows_of}
 use Rattle.clap.specs.declared.parser.matches.ArgMatches.{ArgMatches}
 use Rattle.clap.specs.declared.parser.matches.Found.{Found}
+use Rattle.arguments.specs.Formats.{format_at}
 use Rattle.arguments.specs.UserWords.{id_at, ids_at, all_read, user_at, group_at}
 use Rattle.arguments.specs.declared.named_pair.NamedPair.{NamedPair}
 use Rattle.arguments.specs.declared.named_user.NamedUser.{NamedUser}
@@ -122,11 +123,13 @@ pub record IsMay (found : Found) (may : May) : Type 0 where
   pub user : user_given found ≡ Some (ids_of may.user)
   pub pid : number_at found (codes "pid") ≡ Some may.pid
   pub to : first_value found (codes "to") ≡ Some may.to.now
+  pub format : format_at found ≡ Some may.format
 
 pub record IsCheck (found : Found) (check : Check) : Type 0 where
   pub tree : option_map (λ file. file.now) check.tree ≡ file_at found (codes "tree")
   pub user : user_given found ≡ Some (ids_of check.user)
   pub subtree : first_value found (codes "subtree") ≡ Some check.subtree.now
+  pub format : format_at found ≡ Some check.format
 
 -- of one user and one subtree at least, of no text of pairs or subtrees, and not of everybody
 pub record IsAudit (found : Found) (audit : Audit) : Type 0 where
@@ -141,6 +144,7 @@ pub record IsAudit (found : Found) (audit : Audit) : Type 0 where
   pub no_subtrees : first_value found (codes "subtrees") ≡ None
   pub not_everybody : first_value found (codes "everybody") ≢ Some (codes "true")
   pub all_meant : NoneIsLeftOut found
+  pub format : format_at found ≡ Some audit.format
 
 -- of everybody, and of no user or group, of one subtree at least and no text of subtrees, and neither of every pair nor looked at further
 pub record IsEverybody (found : Found) (asked : Everybody) : Type 0 where
@@ -155,6 +159,7 @@ pub record IsEverybody (found : Found) (asked : Everybody) : Type 0 where
   pub no_pairs : first_value found (codes "pairs") ≡ None
   pub no_all : first_value found (codes "all") ≢ Some (codes "true")
   pub no_settle : first_value found (codes "settle") ≢ Some (codes "true")
+  pub format : format_at found ≡ Some asked.format
 
 -- of everybody, likewise, and of the subtrees that a text names
 pub record IsOfSubtrees (found : Found) (asked : Subtrees) : Type 0 where
@@ -169,6 +174,7 @@ pub record IsOfSubtrees (found : Found) (asked : Subtrees) : Type 0 where
   pub no_pairs : first_value found (codes "pairs") ≡ None
   pub no_all : first_value found (codes "all") ≢ Some (codes "true")
   pub no_settle : first_value found (codes "settle") ≢ Some (codes "true")
+  pub format : format_at found ≡ Some asked.format
 
 pub record IsExplain (found : Found) (explain : Explain) : Type 0 where
   pub tree : option_map (λ file. file.now) explain.tree ≡ file_at found (codes "tree")
@@ -180,6 +186,7 @@ pub record IsExplain (found : Found) (explain : Explain) : Type 0 where
   pub no_subtrees : first_value found (codes "subtrees") ≡ None
   pub not_everybody : first_value found (codes "everybody") ≢ Some (codes "true")
   pub all_meant : NoneIsLeftOut found
+  pub format : format_at found ≡ Some explain.format
 
 pub record IsAdvise (found : Found) (advise : Advise) : Type 0 where
   pub tree : option_map (λ file. file.now) advise.tree ≡ file_at found (codes "tree")
@@ -193,6 +200,7 @@ pub record IsAdvise (found : Found) (advise : Advise) : Type 0 where
   pub not_everybody : first_value found (codes "everybody") ≢ Some (codes "true")
   pub all_meant : NoneIsLeftOut found
   pub settle : IsFlag (one_text found (codes "settle")) advise.settle
+  pub format : format_at found ≡ Some advise.format
 
 -- of the pairs that a text names, and of nobody else, and it isn't looked further
 pub record IsOfPairs (found : Found) (asked : Pairs) : Type 0 where
@@ -206,12 +214,14 @@ pub record IsOfPairs (found : Found) (asked : Pairs) : Type 0 where
   pub no_settle : first_value found (codes "settle") ≢ Some (codes "true")
   pub not_everybody : first_value found (codes "everybody") ≢ Some (codes "true")
   pub all_meant : NoneIsLeftOut found
+  pub format : format_at found ≡ Some asked.format
 
 pub record IsReplay (found : Found) (replay : Replay) : Type 0 where
   pub tree : tree_file replay.sources ≡ file_at found (codes "tree")
   pub ops : other_file replay.sources ≡ file_at found (codes "ops")
   pub user : user_given found ≡ Some (ids_of replay.user)
   pub subtree : option_map (λ path. path.now) replay.subtree ≡ first_value found (codes "subtree")
+  pub format : format_at found ≡ Some replay.format
 
 pub record IsUpgrade (found : Found) (upgrade : Upgrade) : Type 0 where
   pub tree : option_map (λ file. file.now) upgrade.tree ≡ file_at found (codes "tree")

@@ -233,7 +233,8 @@ fn user_command<'a>(
             number_argument(alloc, "gid", "GID")
                 .action(ArgAction::Append)
                 .help("A group of the user, up to 32 times; the first is the primary one"),
-        )
+        )?
+        .arg(format_argument(alloc))
 }
 
 fn may_command<'a>(alloc: Global) -> Result<Command<'a>, AllocError>
@@ -288,7 +289,8 @@ fn pairs_command<'a>(
                 .action(ArgAction::Append)
                 .help("The top of a subtree, once or more"),
         )?
-        .arg(pairs_argument(alloc))
+        .arg(pairs_argument(alloc))?
+        .arg(format_argument(alloc))
 }
 
 fn audit_command<'a>(alloc: Global) -> Result<Command<'a>, AllocError>
@@ -338,7 +340,8 @@ fn advise_options<'a>(alloc: Global) -> Result<Command<'a>, AllocError>
 {
     advise_named(alloc)?
         .arg(pairs_argument(alloc))?
-        .arg(settle_argument(alloc))
+        .arg(settle_argument(alloc))?
+        .arg(format_argument(alloc))
 }
 
 /// The command `advise`, but for the text of pairs and how far it looks.
@@ -410,6 +413,14 @@ fn pairs_argument<'a>(alloc: Global) -> Arg<'a>
     )
 }
 
+fn format_argument<'a>(alloc: Global) -> Arg<'a>
+    ensures { IsOption (word_option (codes "format")) result }
+{
+    word_argument(alloc, "format", "FORMAT").help(
+        "How the answer is written: lines, or json for a JSON object a line; lines where this is left out",
+    )
+}
+
 fn all_argument<'a>(alloc: Global) -> Arg<'a>
     ensures { IsOption (flag (codes "all")) result }
 {
@@ -434,9 +445,7 @@ fn everybody_argument<'a>(alloc: Global) -> Arg<'a>
     Arg::new(alloc, "everybody")
         .long("everybody")
         .action(ArgAction::SetTrue)
-        .help(
-            "Everybody but root in place of --uid, whoever there is: whom each guarded entry lets in",
-        )
+        .help("Asks of everybody but root in place of --uid, whoever there is")
 }
 
 fn subtrees_argument<'a>(alloc: Global) -> Arg<'a>

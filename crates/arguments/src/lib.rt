@@ -4,6 +4,7 @@
 mod command;
 pub mod everyone;
 pub mod fault;
+pub mod format;
 pub mod named_pair;
 pub mod named_user;
 pub mod request;

@@ -2,6 +2,7 @@
 ghost use Rattle.std.specs.Prelude.{◌≡◌, ◌≢◌, ◌⊎◌, [], Some, None, IfOk, IfErr, MatchBool, MatchResult, codes, map, ok_or, string_bytes};
 ghost use Rattle.std.specs.Option.{option_map};
 ghost use Rattle.clap.specs.Matches.{found_of, first_value};
+ghost use Rattle.arguments.specs.Formats.{format_at};
 ghost use Rattle.arguments.specs.UserWords.{id_at, ids_at, all_read, user_at};
 ghost use Rattle.arguments.specs.Given.{words_at, file_named, file_at, NamesNoFile, number_at, numbers_at, user_given, users_given, plain_number, users_beside, advised_given, ids_of, NoneIsLeftOut, IsMay, IsCheck, IsAudit, IsEverybody, IsExplain, IsAdvise, IsOfPairs, IsOfSubtrees, tree_file, other_file, IsReplay, IsUpgrade, wanted_command, command_of, Holds, IsOf};
 ghost use Rattle.arguments.specs.Words.{Makes, IsNone};
@@ -13,6 +14,7 @@ ghost use Rattle.arguments.specs.declared.request.Request.{Request};
 use crate::command::command;
 use crate::everyone::{Everyone, Wanted};
 use crate::fault::ArgumentsFault;
+use crate::format::Format;
 use crate::named_user::{NamedUser, id_of};
 use clap::ArgMatches;
 use clap::error::ErrorKind;
@@ -170,6 +172,7 @@ pub struct May<'a> {
     pub user: NamedUser,
     pub pid: u32,
     pub to: &'a str,
+    pub format: Format,
 }
 
 impl<'a> May<'a> {
@@ -178,13 +181,15 @@ impl<'a> May<'a> {
         ensures given { IfOk result (IsMay (found_of matches.now)) }
         ensures fault { IfErr result (λ fault. fault ≢ ArgumentsFault.NoMemory → (user_given (found_of matches.now) ≡ None)
             ⊎ (number_at (found_of matches.now) (codes "pid") ≡ None)
-            ⊎ (first_value (found_of matches.now) (codes "to") ≡ None)) }
+            ⊎ (first_value (found_of matches.now) (codes "to") ≡ None)
+            ⊎ (format_at (found_of matches.now) ≡ None)) }
     {
         Ok(May {
             tree: file_of(matches, "tree"),
             user: user_of(alloc, matches)?,
             pid: number(matches, "pid")?,
             to: matches.get_str("to").ok_or(ArgumentsFault::Usage)?,
+            format: Format::from_matches(matches)?,
         })
     }
 }
@@ -195,6 +200,7 @@ pub struct Check<'a> {
     pub tree: Option<&'a str>,
     pub user: NamedUser,
     pub subtree: &'a str,
+    pub format: Format,
 }
 
 impl<'a> Check<'a> {
@@ -202,12 +208,14 @@ impl<'a> Check<'a> {
     fn from_matches(alloc: Global, matches: &ArgMatches<'a>) -> Result<Check<'a>, ArgumentsFault>
         ensures given { IfOk result (IsCheck (found_of matches.now)) }
         ensures fault { IfErr result (λ fault. fault ≢ ArgumentsFault.NoMemory → (user_given (found_of matches.now) ≡ None)
-            ⊎ (first_value (found_of matches.now) (codes "subtree") ≡ None)) }
+            ⊎ (first_value (found_of matches.now) (codes "subtree") ≡ None)
+            ⊎ (format_at (found_of matches.now) ≡ None)) }
     {
         Ok(Check {
             tree: file_of(matches, "tree"),
             user: user_of(alloc, matches)?,
             subtree: matches.get_str("subtree").ok_or(ArgumentsFault::Usage)?,
+            format: Format::from_matches(matches)?,
         })
     }
 }
@@ -222,6 +230,7 @@ pub struct Audit<'a> {
     pub all: bool,
     /// Whether it is looked further where `check` says `unsettled`.
     pub settle: bool,
+    pub format: Format,
 }
 
 impl<'a> Audit<'a> {
@@ -234,7 +243,8 @@ impl<'a> Audit<'a> {
             ⊎ (words_at (found_of matches.now) (codes "uid") ≡ [])
             ⊎ (words_at (found_of matches.now) (codes "subtree") ≡ [])
             ⊎ (first_value (found_of matches.now) (codes "subtrees") ≢ None)
-            ⊎ (NoneIsLeftOut (found_of matches.now) → ⊥)) }
+            ⊎ (NoneIsLeftOut (found_of matches.now) → ⊥)
+            ⊎ (format_at (found_of matches.now) ≡ None)) }
     {
         if matches.get_str("subtrees").is_some() || leaves_out(matches) {
             return Err(ArgumentsFault::Usage);
@@ -245,6 +255,7 @@ impl<'a> Audit<'a> {
             subtrees: given(matches, "subtree")?.to_vec(alloc)?,
             all: matches.get_flag("all"),
             settle: matches.get_flag("settle"),
+            format: Format::from_matches(matches)?,
         })
     }
 }
@@ -256,6 +267,7 @@ pub struct Everybody<'a> {
     pub tree: Option<&'a str>,
     pub everyone: Everyone,
     pub subtrees: Vec<&'a str>,
+    pub format: Format,
 }
 
 impl<'a> Everybody<'a> {
@@ -285,6 +297,7 @@ impl<'a> Everybody<'a> {
             tree: file_of(matches, "tree"),
             everyone: Everyone::from_matches(alloc, matches)?,
             subtrees: given(matches, "subtree")?.to_vec(alloc)?,
+            format: Format::from_matches(matches)?,
         })
     }
 }
@@ -295,6 +308,7 @@ pub struct Subtrees<'a> {
     pub wanted: Wanted,
     pub sources: Sources<'a>,
     pub everyone: Everyone,
+    pub format: Format,
 }
 
 impl<'a> Subtrees<'a> {
@@ -322,6 +336,7 @@ impl<'a> Subtrees<'a> {
             wanted,
             sources: Sources::from_matches(matches, "subtrees")?,
             everyone: Everyone::from_matches(alloc, matches)?,
+            format: Format::from_matches(matches)?,
         })
     }
 }
@@ -332,6 +347,7 @@ pub struct Explain<'a> {
     pub tree: Option<&'a str>,
     pub users: Vec<NamedUser>,
     pub subtrees: Vec<&'a str>,
+    pub format: Format,
 }
 
 impl<'a> Explain<'a> {
@@ -344,7 +360,8 @@ impl<'a> Explain<'a> {
             ⊎ (words_at (found_of matches.now) (codes "uid") ≡ [])
             ⊎ (words_at (found_of matches.now) (codes "subtree") ≡ [])
             ⊎ (first_value (found_of matches.now) (codes "subtrees") ≢ None)
-            ⊎ (NoneIsLeftOut (found_of matches.now) → ⊥)) }
+            ⊎ (NoneIsLeftOut (found_of matches.now) → ⊥)
+            ⊎ (format_at (found_of matches.now) ≡ None)) }
     {
         if matches.get_str("subtrees").is_some() || leaves_out(matches) {
             return Err(ArgumentsFault::Usage);
@@ -353,6 +370,7 @@ impl<'a> Explain<'a> {
             tree: file_of(matches, "tree"),
             users: users_of(alloc, given(matches, "uid")?)?,
             subtrees: given(matches, "subtree")?.to_vec(alloc)?,
+            format: Format::from_matches(matches)?,
         })
     }
 }
@@ -365,6 +383,7 @@ pub struct Advise<'a> {
     pub subtrees: Vec<&'a str>,
     /// Whether it is looked further where a guard fails.
     pub settle: bool,
+    pub format: Format,
 }
 
 impl<'a> Advise<'a> {
@@ -377,7 +396,8 @@ impl<'a> Advise<'a> {
             ⊎ (words_at (found_of matches.now) (codes "uid") ≡ [])
             ⊎ (words_at (found_of matches.now) (codes "subtree") ≡ [])
             ⊎ (first_value (found_of matches.now) (codes "subtrees") ≢ None)
-            ⊎ (NoneIsLeftOut (found_of matches.now) → ⊥)) }
+            ⊎ (NoneIsLeftOut (found_of matches.now) → ⊥)
+            ⊎ (format_at (found_of matches.now) ≡ None)) }
     {
         if matches.get_str("subtrees").is_some() || leaves_out(matches) {
             return Err(ArgumentsFault::Usage);
@@ -388,6 +408,7 @@ impl<'a> Advise<'a> {
             users: users_beside(alloc, words, numbers(alloc, matches, "gid")?)?,
             subtrees: given(matches, "subtree")?.to_vec(alloc)?,
             settle: matches.get_flag("settle"),
+            format: Format::from_matches(matches)?,
         })
     }
 }
@@ -396,6 +417,7 @@ impl<'a> Advise<'a> {
 #[derive(Clone, Copy, Debug, PartialEq, Eq)]
 pub struct Pairs<'a> {
     pub sources: Sources<'a>,
+    pub format: Format,
 }
 
 impl<'a> Pairs<'a> {
@@ -418,6 +440,7 @@ impl<'a> Pairs<'a> {
         }
         Ok(Pairs {
             sources: Sources::from_matches(matches, "pairs")?,
+            format: Format::from_matches(matches)?,
         })
     }
 }
@@ -492,6 +515,7 @@ pub struct Replay<'a> {
     pub sources: Sources<'a>,
     pub user: NamedUser,
     pub subtree: Option<&'a str>,
+    pub format: Format,
 }
 
 impl<'a> Replay<'a> {
@@ -499,12 +523,14 @@ impl<'a> Replay<'a> {
     fn from_matches(alloc: Global, matches: &ArgMatches<'a>) -> Result<Replay<'a>, ArgumentsFault>
         ensures given { IfOk result (IsReplay (found_of matches.now)) }
         ensures fault { IfErr result (λ fault. fault ≢ ArgumentsFault.NoMemory → (user_given (found_of matches.now) ≡ None)
-            ⊎ NamesNoFile (found_of matches.now) (codes "ops")) }
+            ⊎ NamesNoFile (found_of matches.now) (codes "ops")
+            ⊎ (format_at (found_of matches.now) ≡ None)) }
     {
         Ok(Replay {
             sources: Sources::from_matches(matches, "ops")?,
             user: user_of(alloc, matches)?,
             subtree: matches.get_str("subtree"),
+            format: Format::from_matches(matches)?,
         })
     }
 }

@@ -26,6 +26,8 @@ const SIGNED: &str =
     "a uid, a gid and a PID are written in decimal digits, with no sign and no spaces:
 `id -u NAME` prints a user's uid, `id -G NAME` the gids";
 
+const FORMATS: &str = "--format takes lines, or json for a JSON object a line";
+
 /// An option that takes a number, as clap names it, and what is to be written.
 const NUMBERS: [(&str, &str); 3] = [
     (
@@ -55,10 +57,19 @@ pub fn usage_text<'a>(alloc: Global, words: &'a [String]) -> Result<Option<Strin
 /// What is wrong with words that clap takes.
 fn beside_clap(matches: &ArgMatches<'_>) -> &'static str {
     match matches.subcommand() {
+        Some((_, given)) if has_other_format(given) => FORMATS,
         Some(("replay", given)) if !has_sign(given) => ONE_INPUT,
         Some(("advise", _)) => ADVISED,
         Some(("audit" | "explain", _)) => USERS,
         _ => SIGNED,
+    }
+}
+
+/// Whether a word that is no format stands behind `--format`, which clap takes.
+fn has_other_format(given: &ArgMatches<'_>) -> bool {
+    match given.get_str("format") {
+        Some(word) => word != "lines" && word != "json",
+        None => false,
     }
 }
 

@@ -23,10 +23,11 @@ use Rattle.cg_model.specs.States.{State}
 use Rattle.cg_model.specs.Once.{once}
 use Rattle.cg_model.specs.Mended.{is_by}
 use Rattle.cg_model.specs.declared.mend.Class.TheVariants.{Owner, Group, Others}
-use Rattle.cg_model.specs.Mends.{Pair as Named, Entrant as Entering, entrants, is_at, same_place, users_at, met, subtrees_of}
+use Rattle.cg_model.specs.Mends.{Pair as Named, Entrant as Entering, entrants, is_at, same_place, users_at, users_with, met, subtrees_of}
 use Rattle.cg_model.proofs.OnceLaws.{once_more, all-once}
 use Rattle.cg_model.proofs.Lists.{all-each}
 use Rattle.cg_advice.specs.AdviceLines.{entry_lines, over_lines, pairs_lines}
+use Rattle.cg_advice.specs.Found.{ways_by, let_gathered, let_by}
 use Rattle.cg_advice.specs.WayLines.{lines_by}
 use Rattle.cg_advice.specs.Ways.{no_ways, ways_with, ways_among, ways_at, AreGathered, Key, key_cmp, is_keyed, gathered_lines}
 use Rattle.cg_advice.specs.declared.ways.Ways.{Ways}
@@ -142,12 +143,12 @@ ways_of_key key x all is = λ i. ways_among (filter (λ each. same_path (take ea
 -- ---- what is written of them
 
 -- of things whose lines are written where they are met first
-pub record AreWritten {X K : Type 0} (lines_of : X → List ℕ) (same : X → X → Bool) (meets : K → X → Bool) (text begun : List ℕ)
+pub record AreWritten {X K T : Type 0} (lines_of : X → List T) (same : X → X → Bool) (meets : K → X → Bool) (text begun : List T)
     (front : List X) (seen : K → Bool) : Type 0 where
   pub lines : text ≡ begun ++ flat_map lines_of (once same front)
   pub keys : (q : K) → seen q ≡ list_any (meets q) front
 
-module _ {X K : Type 0} (lines_of : X → List ℕ) (same : X → X → Bool) (meets : K → X → Bool) (text begun : List ℕ)
+module _ {X K T : Type 0} (lines_of : X → List T) (same : X → X → Bool) (meets : K → X → Bool) (text begun : List T)
     (front : List X) (old new tie : K → Bool) (x : X) (key : K) (added : Bool)
     (before : AreWritten lines_of same meets text begun front old) (ties : (q : K) → tie q ≡ meets q x)
     (alike : (y : X) → meets key y ≡ same y x)
@@ -183,7 +184,7 @@ module _ {X K : Type 0} (lines_of : X → List ℕ) (same : X → X → Bool) (m
       turned true = refl
       turned false = refl
 
-  pub written_first : added ≡ true → (more : List ℕ) → more ≡ text ++ lines_of x
+  pub written_first : added ≡ true → (more : List T) → more ≡ text ++ lines_of x
       → AreWritten lines_of same meets more begun (front ++ x ∷ []) new
   written_first said more is_more = record {
     lines =
@@ -193,7 +194,7 @@ module _ {X K : Type 0} (lines_of : X → List ℕ) (same : X → X → Bool) (m
     keys = keys_more;
   }
 
-  pub written_again : added ≡ false → (more : List ℕ) → more ≡ text → AreWritten lines_of same meets more begun (front ++ x ∷ []) new
+  pub written_again : added ≡ false → (more : List T) → more ≡ text → AreWritten lines_of same meets more begun (front ++ x ∷ []) new
   written_again said more is_more = record {
     lines =
         is_more ∙ before.lines
@@ -248,21 +249,30 @@ any_same test path name entry (each ∷ es) these =
     ] refl
 
 module _ (st : State) (all : List Entering) (there : AllByRecursion (IsThere st) all) where
-  lines_same : (each : Entering) → IsThere st each → gathered_lines all each ≡ entry_lines all each
-  lines_same each here =
+  ways_same : (each : Entering) → IsThere st each
+      → ways_at (take each.at.len each.subtree, record { ref_ptr = (0, 0); now = entry_text each.at.name }) all
+      ≡ ways_by (users_with all each) each.at.entry
+  ways_same each here =
       let path = take each.at.len each.subtree in
       let name = each.at.name in
       let these = all-each (IsThere st) (λ other. is_at path name other ≡ true → other.at.entry ≡ each.at.entry)
       (this-there st path name each.at.entry here) all there in
-      ap (λ test. lines_by (ways_among (filter test all)) each.subtree each.at)
+      ap (λ test. ways_among (filter test all))
       (λ i other. same_path (take other.at.len other.subtree) path && same_named other.at.name name i)
-      ∙ (λ i. lines_by (record {
+      ∙ (λ i. record {
         owner = any_same (λ entry user. is_by Owner entry user) path name each.at.entry all these i;
         group = any_same (λ entry user. is_by Group entry user) path name each.at.entry all these i;
         others = any_same (λ entry user. is_by Others entry user) path name each.at.entry all these i;
         inside = any_same (λ entry user. in_group user entry.gid) path name each.at.entry all these i;
         outside = any_same (λ entry user. not (in_group user entry.gid)) path name each.at.entry all these i;
-      }) each.subtree each.at)
+      })
+
+  lines_same : (each : Entering) → IsThere st each → gathered_lines all each ≡ entry_lines all each
+  lines_same each here = ap (λ ways. lines_by ways each.subtree each.at) (ways_same each here)
+
+  pub lets_same : (es : List Entering) → AllByRecursion (IsThere st) es → map (let_gathered all) es ≡ map (let_by all) es
+  lets_same [] those = refl
+  lets_same (each ∷ es) those = λ i. (each.subtree, each.at, ways_same each those.0 i) ∷ lets_same es those.1 i
 
   pub all_lines_same : (es : List Entering) → AllByRecursion (IsThere st) es
       → flat_map (gathered_lines all) es ≡ flat_map (entry_lines all) es

@@ -3,3 +3,4 @@ pub mod WayLines
 pub mod Advised
 pub mod Ways
 pub mod Thinned
+pub mod Found

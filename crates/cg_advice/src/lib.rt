@@ -2,6 +2,7 @@
 #![tactic(auto)]
 
 mod entrants;
+pub mod found;
 mod gathered;
 pub mod laws;
 pub mod mend;

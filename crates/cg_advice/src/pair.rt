@@ -29,3 +29,11 @@ pub struct Stand<'a> {
     pub ways: Ways,
     ghost shown: { IsShown subtree.now at },
 }
+
+/// A subtree that is over its limits: how many cgroups and how many levels are below it, where that is more than its limit.
+#[derive(Clone, Copy)]
+pub struct Over<'a> {
+    pub subtree: &'a Path,
+    pub descendants: Option<u64>,
+    pub depth: Option<u64>,
+}

@@ -60,7 +60,7 @@ pub fn advice_lines<H: Hierarchy>(
 }
 
 /// Whether no guard of its subtree fails for the user of any pair.
-fn are_guarded<H: Hierarchy>(tree: &H, pairs: &[Pair<'_>]) -> bool
+pub(crate) fn are_guarded<H: Hierarchy>(tree: &H, pairs: &[Pair<'_>]) -> bool
     requires { All (λ pair. IsSubtree (H.state tree.now) pair.subtree.now) pairs.now }
     ensures { result ≡ list_all (is_pair_guarded (H.state tree.now)) (map pair_of pairs.now) }
 {

@@ -23,7 +23,6 @@ use Rattle.cg_model.specs.Listed.{Listed, listed_unless_contained, listed_of, li
 use Rattle.cg_model.specs.declared.answer.Answer.{Answer}
 use Rattle.cg_model.specs.declared.answer.Answer.TheVariants.{Contained, Escapes, Unsettled}
 use Rattle.cg_check.proofs.Checking.{checked-answer}
-use Rattle.cg_report.specs.PairLines.{pair_text, pairs_text}
 use Rattle.cg_cli.specs.Asking.{read_in_turn, named_read, read_takes_memory, IsMet, IsKeptOnce, NamedReports}
 use Rattle.cg_faults.specs.Faults.{lifted_check}
 use Rattle.cg_cli.specs.Audits.{users_read, paths_read}
@@ -32,7 +31,7 @@ use Rattle.cg_cli.specs.May.{tree_read}
 use Rattle.cg_model.specs.Once.{once}
 use Rattle.cg_cli.specs.Once.{same_user}
 use Rattle.streams.specs.Written.{AppendsPart}
-use Rattle.cg_cli.specs.AllPairs.{is_escape, pairs_status, worse, listing_text, WritesPairs, read_then, found_unless_fault, pairs_found, all_report, ReportsPairs, UnlistedAreContained, ListsUncontained}
+use Rattle.cg_cli.specs.AllPairs.{Listing, is_escape, pairs_status, worse, pairs_by, listing_by, WritesPairs, read_then, found_unless_fault, pairs_found, all_report, ReportsPairsBy, UnlistedAreContained, ListsUncontained}
 use Rattle.cg_faults.specs.declared.fault.CliFault.{CliFault}
 use Rattle.cg_faults.specs.declared.fault.CliFault.TheVariants.{Write, NoMemory}
 use Rattle.cg_cli.proofs.NamedReads.{regrouped, by_reading}
@@ -84,22 +83,23 @@ no_status (pair ∷ pairs) zero = by_escape (some_escape (pair ∷ pairs)) zero
 
 -- ---- one after another
 
-text_of_both : (xs ys : List Listed) → pairs_text (xs ++ ys) ≡ pairs_text xs ++ pairs_text ys
-text_of_both xs ys = flat_map-append pair_text xs ys
-
 -- of some pairs a front is written, and the rest is still to come
-pub record Front (pairs rest : List Listed) (old new : Option (List ℕ)) (worst : ℕ) : Type 0 where
+pub record Front (how : Listing) (pairs rest : List Listed) (old new : Option (List ℕ)) (worst : ℕ) : Type 0 where
   pub front : List Listed
   pub whole : front ++ rest ≡ pairs
   pub status : pairs_status front ≡ worst
-  pub text : Appends old new (pairs_text front)
+  pub text : Appends old new (pairs_by how front)
 
-pub begins : (pairs rest : List Listed) (known : Option (List ℕ)) → rest ≡ pairs → Front pairs rest known known 0
-begins pairs rest known same = record { front = []; whole = same; status = refl; text = Appends-nil known }
+module _ (how : Listing) where
+  text_of_both : (xs ys : List Listed) → pairs_by how (xs ++ ys) ≡ pairs_by how xs ++ pairs_by how ys
+  text_of_both xs ys = flat_map-append how.each xs ys
 
-module _ (pairs here rest : List Listed) (old mid new : Option (List ℕ)) (status : ℕ) (far : Front pairs (here ++ rest) old mid status)
-  where
-    pub goes_on : (more : ℕ) → WritesPairs here mid new (Ok more) → Front pairs rest old new (worse status more)
+  pub begins : (pairs rest : List Listed) (known : Option (List ℕ)) → rest ≡ pairs → Front how pairs rest known known 0
+  begins pairs rest known same = record { front = []; whole = same; status = refl; text = Appends-nil known }
+
+  module _ (pairs here rest : List Listed) (old mid new : Option (List ℕ)) (status : ℕ)
+      (far : Front how pairs (here ++ rest) old mid status) where
+    pub goes_on : (more : ℕ) → WritesPairs how here mid new (Ok more) → Front how pairs rest old new (worse status more)
     goes_on more written = record {
       front = far.front ++ here;
       whole = append_assoc far.front here rest ∙ far.whole;
@@ -107,19 +107,19 @@ module _ (pairs here rest : List Listed) (old mid new : Option (List ℕ)) (stat
       text = subst (Appends old new) (sym (text_of_both far.front here)) (Appends-trans old mid new _ _ far.text written.1);
     }
 
-    all_text : pairs_text pairs ≡ pairs_text far.front ++ (pairs_text here ++ pairs_text rest)
+    all_text : pairs_by how pairs ≡ pairs_by how far.front ++ (pairs_by how here ++ pairs_by how rest)
     all_text =
-        ap pairs_text (sym far.whole) ∙ text_of_both far.front (here ++ rest)
-        ∙ ap (λ text. pairs_text far.front ++ text) (text_of_both here rest)
+        ap (pairs_by how) (sym far.whole) ∙ text_of_both far.front (here ++ rest)
+        ∙ ap (λ text. pairs_by how far.front ++ text) (text_of_both here rest)
 
-    part_of : AppendsPart mid new (pairs_text here) → AppendsPart mid new (pairs_text here ++ pairs_text rest)
+    part_of : AppendsPart mid new (pairs_by how here) → AppendsPart mid new (pairs_by how here ++ pairs_by how rest)
     part_of part = (
       part.0,
-      omega (arith, part.1, length-append (pairs_text here) (pairs_text rest)),
-      subst (Appends mid new) (sym (take-append-le part.0 (pairs_text here) (pairs_text rest) (omega (arith, part.1)))) part.2,
+      omega (arith, part.1, length-append (pairs_by how here) (pairs_by how rest)),
+      subst (Appends mid new) (sym (take-append-le part.0 (pairs_by how here) (pairs_by how rest) (omega (arith, part.1)))) part.2,
     )
 
-    pub stops : (fault : CliFault) → WritesPairs here mid new (Err fault) → WritesPairs pairs old new (Err fault)
+    pub stops : (fault : CliFault) → WritesPairs how here mid new (Err fault) → WritesPairs how pairs old new (Err fault)
     stops Write part = subst (AppendsPart old new) (sym all_text) (part_behind old mid new _ _ far.text (part_of part))
     stops NoMemory left = (
       far.front ++ left.0,
@@ -130,265 +130,272 @@ module _ (pairs here rest : List Listed) (old mid new : Option (List ℕ)) (stat
     )
     stops fault never = absurd never
 
-pub ends : (pairs rest : List Listed) (old new : Option (List ℕ)) (status : ℕ) → rest ≡ [] → Front pairs rest old new status
-    → WritesPairs pairs old new (Ok status)
-ends pairs rest old new status none far =
-    let same : far.front ≡ pairs = sym (append-nil far.front) ∙ ap (λ l. far.front ++ l) (sym none) ∙ far.whole in
-    (ap pairs_status (sym same) ∙ far.status, subst (λ l. Appends old new (pairs_text l)) same far.text)
+  pub ends : (pairs rest : List Listed) (old new : Option (List ℕ)) (status : ℕ) → rest ≡ [] → Front how pairs rest old new status
+      → WritesPairs how pairs old new (Ok status)
+  ends pairs rest old new status none far =
+      let same : far.front ≡ pairs = sym (append-nil far.front) ∙ ap (λ l. far.front ++ l) (sym none) ∙ far.whole in
+      (ap pairs_status (sym same) ∙ far.status, subst (λ l. Appends old new (pairs_by how l)) same far.text)
 
--- ---- of one user
+  -- ---- of one user
 
--- the pair with a subtree is the next
-pub here_next : (st : State) (user : Identity) (subtrees : List Names) (i : ℕ) (subtree : Names) (pairs : List Listed)
-    (old new : Option (List ℕ)) (worst : ℕ) → i < length subtrees → subtree ≡ get_or subtrees i subtree
-    → Front pairs (listed_of st (drop i subtrees) user) old new worst
-    → Front pairs (listed_unless_contained user subtree (answer st user subtree) ++ listed_of st (drop (i + 1) subtrees) user) old new worst
-here_next st user subtrees i subtree pairs old new worst within at =
-    subst (λ rest. Front pairs (listed_of st rest user) old new worst)
-    (drop-cons subtrees i subtree within ∙ (λ j. sym at j ∷ drop (sym (add-one i) j) subtrees))
+  -- the pair with a subtree is the next
+  pub here_next : (st : State) (user : Identity) (subtrees : List Names) (i : ℕ) (subtree : Names) (pairs : List Listed)
+      (old new : Option (List ℕ)) (worst : ℕ) → i < length subtrees → subtree ≡ get_or subtrees i subtree
+      → Front how pairs (listed_of st (drop i subtrees) user) old new worst
+      → Front how pairs (listed_unless_contained user subtree (answer st user subtree) ++ listed_of st (drop (i + 1) subtrees) user)
+      old new worst
+  here_next st user subtrees i subtree pairs old new worst within at =
+      subst (λ rest. Front how pairs (listed_of st rest user) old new worst)
+      (drop-cons subtrees i subtree within ∙ (λ j. sym at j ∷ drop (sym (add-one i) j) subtrees))
 
--- the pairs of the first user who is left are the next
-pub user_next : (st : State) (subtrees : List Names) (left : List Identity) (user : Identity) (pairs : List Listed)
-    (old new : Option (List ℕ)) (worst : ℕ) → 0 < length left → user ≡ get_or left 0 user
-    → Front pairs (listed st left subtrees) old new worst
-    → Front pairs (listed_of st subtrees user ++ listed st (drop 1 left) subtrees) old new worst
-user_next st subtrees left user pairs old new worst within at =
-    subst (λ rest. Front pairs (listed st rest subtrees) old new worst) (drop-cons left 0 user within ∙ (λ j. sym at j ∷ drop 1 left))
+  -- the pairs of the first user who is left are the next
+  pub user_next : (st : State) (subtrees : List Names) (left : List Identity) (user : Identity) (pairs : List Listed)
+      (old new : Option (List ℕ)) (worst : ℕ) → 0 < length left → user ≡ get_or left 0 user
+      → Front how pairs (listed st left subtrees) old new worst
+      → Front how pairs (listed_of st subtrees user ++ listed st (drop 1 left) subtrees) old new worst
+  user_next st subtrees left user pairs old new worst within at =
+      subst (λ rest. Front how pairs (listed st rest subtrees) old new worst) (drop-cons left 0 user within ∙ (λ j. sym at j ∷ drop 1 left))
 
-pub passes_on : (pairs rest next : List Listed) (old new : Option (List ℕ)) (worst worse : ℕ) → next ≡ rest → worse ≡ worst
-    → Front pairs rest old new worst → Front pairs next old new worse
-passes_on pairs rest next old new worst worse of_rest of_worst far =
-    subst (λ (n : ℕ). Front pairs next old new n) (sym of_worst) (subst (λ l. Front pairs l old new worst) (sym of_rest) far)
+  pub passes_on : (pairs rest next : List Listed) (old new : Option (List ℕ)) (worst worse : ℕ) → next ≡ rest → worse ≡ worst
+      → Front how pairs rest old new worst → Front how pairs next old new worse
+  passes_on pairs rest next old new worst worse of_rest of_worst far =
+      subst (λ (n : ℕ). Front how pairs next old new n) (sym of_worst) (subst (λ l. Front how pairs l old new worst) (sym of_rest) far)
 
--- ---- one pair
+  -- ---- one pair
 
-module _ (user : Identity) (subtree : Names) where
-  abbrev here : Answer → List Listed
-  here found = listed_unless_contained user subtree found
+  module _ (user : Identity) (subtree : Names) where
+    abbrev here : Answer → List Listed
+    here found = listed_unless_contained user subtree found
 
-  one_status : (found : Answer) → pairs_status (here found) ≡ answer_status found
-  one_status Contained = refl
-  one_status (Escapes ops) = refl
-  one_status (Unsettled failed) = refl
+    one_status : (found : Answer) → pairs_status (here found) ≡ answer_status found
+    one_status Contained = refl
+    one_status (Escapes ops) = refl
+    one_status (Unsettled failed) = refl
 
-  one_text : (found : Answer) → found ≢ Contained
-      → pairs_text (here found) ≡ pair_text (record { user = user; subtree = subtree; found = found })
-  one_text Contained other = absurd (other refl)
-  one_text (Escapes ops) other = append-nil _
-  one_text (Unsettled failed) other = append-nil _
+    one_text : (found : Answer) → found ≢ Contained
+        → pairs_by how (here found) ≡ how.each (record { user = user; subtree = subtree; found = found })
+    one_text Contained other = absurd (other refl)
+    one_text (Escapes ops) other = append-nil _
+    one_text (Unsettled failed) other = append-nil _
 
-  one_listed : (found : Answer) → is_contained found ≡ false → found ≢ Contained
-  one_listed found listed same = let never : true ≡ false = ap is_contained (sym same) ∙ listed in cc
+    one_listed : (found : Answer) → is_contained found ≡ false → found ≢ Contained
+    one_listed found listed same = let never : true ≡ false = ap is_contained (sym same) ∙ listed in cc
 
-  pub one_written : (found : Answer) (old new : Option (List ℕ)) (text : List ℕ) (status : ℕ) → is_contained found ≡ false
-      → text ≡ pair_text (record { user = user; subtree = subtree; found = found }) → status ≡ answer_status found → Appends old new text
-      → WritesPairs (here found) old new (Ok status)
-  one_written found old new text status listed is status_is written =
-      (one_status found ∙ sym status_is, subst (Appends old new) (is ∙ sym (one_text found (one_listed found listed))) written)
+    pub one_written : (found : Answer) (old new : Option (List ℕ)) (text : List ℕ) (status : ℕ) → is_contained found ≡ false
+        → text ≡ how.each (record { user = user; subtree = subtree; found = found }) → status ≡ answer_status found → Appends old new text
+        → WritesPairs how (here found) old new (Ok status)
+    one_written found old new text status listed is status_is written =
+        (one_status found ∙ sym status_is, subst (Appends old new) (is ∙ sym (one_text found (one_listed found listed))) written)
 
-  pub one_part : (found : Answer) (old new : Option (List ℕ)) (text : List ℕ) → is_contained found ≡ false
-      → text ≡ pair_text (record { user = user; subtree = subtree; found = found }) → AppendsPart old new text
-      → WritesPairs (here found) old new (Err Write)
-  one_part found old new text listed is part =
-      subst (AppendsPart old new) (is ∙ sym (one_text found (one_listed found listed))) part
+    pub one_part : (found : Answer) (old new : Option (List ℕ)) (text : List ℕ) → is_contained found ≡ false
+        → text ≡ how.each (record { user = user; subtree = subtree; found = found }) → AppendsPart old new text
+        → WritesPairs how (here found) old new (Err Write)
+    one_part found old new text listed is part =
+        subst (AppendsPart old new) (is ∙ sym (one_text found (one_listed found listed))) part
 
-  module _ (st : State) (faultless : first (subtree_faults st subtree) ≡ None) where
-    is_answer : (found : Answer) → Gives check_takes (checked st user subtree) (Ok found) → answer st user subtree ≡ found
-    is_answer found gives = same_Ok (sym (checked-answer st user subtree (sym faultless)) ∙ gives)
+    module _ (st : State) (faultless : first (subtree_faults st subtree) ≡ None) where
+      is_answer : (found : Answer) → Gives check_takes (checked st user subtree) (Ok found) → answer st user subtree ≡ found
+      is_answer found gives = same_Ok (sym (checked-answer st user subtree (sym faultless)) ∙ gives)
+        where
+          same_Ok : {x y : Answer} → let r : Result Answer CheckFault = Ok x in let s : Result Answer CheckFault = Ok y in r ≡ s → x ≡ y
+          same_Ok same = cc
+
+      pub contained_writes : (found : Answer) (known : Option (List ℕ)) → Gives check_takes (checked st user subtree) (Ok found)
+          → found ≡ Contained → WritesPairs how (here (answer st user subtree)) known known (Ok 0)
+      contained_writes found known gives contained =
+          subst (λ a. WritesPairs how (here a) known known (Ok 0)) (sym (is_answer found gives ∙ contained)) (refl, Appends-nil known)
+
+      pub pair_writes : (found : Answer) (old new : Option (List ℕ)) (text : List ℕ) (status : ℕ)
+          → Gives check_takes (checked st user subtree) (Ok found) → found ≢ Contained
+          → text ≡ how.each (record { user = user; subtree = subtree; found = found }) → status ≡ answer_status found → Appends old new text
+          → WritesPairs how (here (answer st user subtree)) old new (Ok status)
+      pair_writes found old new text status gives other is status_is written =
+          subst (λ a. WritesPairs how (here a) old new (Ok status)) (sym (is_answer found gives))
+          (one_status found ∙ sym status_is, subst (Appends old new) (is ∙ sym (one_text found other)) written)
+
+      pub pair_stops : (found : Answer) (old new : Option (List ℕ)) (text : List ℕ) → Gives check_takes (checked st user subtree) (Ok found)
+          → found ≢ Contained
+          → text ≡ how.each (record { user = user; subtree = subtree; found = found }) → AppendsPart old new text
+          → WritesPairs how (here (answer st user subtree)) old new (Err Write)
+      pair_stops found old new text gives other is part =
+          subst (λ a. AppendsPart old new (pairs_by how (here a))) (sym (is_answer found gives))
+          (subst (AppendsPart old new) (is ∙ sym (one_text found other)) part)
+
+      pub fault_wants : (fault : CheckFault) (known : Option (List ℕ)) → Gives check_takes (checked st user subtree) (Err fault)
+          → WritesPairs how (here (answer st user subtree)) known known (Err (lifted_check fault))
+      fault_wants RootSubtree known gives =
+          let never : ⊥ = let e = sym (checked-answer st user subtree (sym faultless)) ∙ gives in cc in absurd never
+      fault_wants NoSuchSubtree known gives =
+          let never : ⊥ = let e = sym (checked-answer st user subtree (sym faultless)) ∙ gives in cc in absurd never
+      fault_wants CheckNoMemory known gives = ([], here (answer st user subtree), refl, Appends-nil known)
+
+  pub wants : (pairs : List Listed) (known : Option (List ℕ)) → WritesPairs how pairs known known (Err NoMemory)
+  wants pairs known = ([], pairs, refl, Appends-nil known)
+
+  -- ---- all pairs
+
+  pub fault_said : (fault : CliFault) (known : Option (List ℕ)) → ReportsPairsBy how (Err fault) known known (Err fault)
+  fault_said NoMemory known = (refl, Keeps-refl known)
+  fault_said fault known = (refl, Keeps-refl known)
+
+  -- of some pairs, what their report is where they are written
+  module _ (pairs : List Listed) where
+    listed_text : pairs_status pairs ≢ 0 → pairs_by how pairs ≡ listing_by how pairs
+    listed_text other = by_pairs pairs other
       where
-        same_Ok : {x y : Answer} → let r : Result Answer CheckFault = Ok x in let s : Result Answer CheckFault = Ok y in r ≡ s → x ≡ y
-        same_Ok same = cc
+        by_pairs : (all : List Listed) → pairs_status all ≢ 0 → pairs_by how all ≡ listing_by how all
+        by_pairs [] other = absurd (other refl)
+        by_pairs (pair ∷ all) other = refl
 
-    pub contained_writes : (found : Answer) (known : Option (List ℕ)) → Gives check_takes (checked st user subtree) (Ok found)
-        → found ≡ Contained → WritesPairs (here (answer st user subtree)) known known (Ok 0)
-    contained_writes found known gives contained =
-        subst (λ a. WritesPairs (here a) known known (Ok 0)) (sym (is_answer found gives ∙ contained)) (refl, Appends-nil known)
+    part_text : (all : List Listed) (old new : Option (List ℕ)) → AppendsPart old new (pairs_by how all)
+        → AppendsPart old new (listing_by how all)
+    part_text [] old new part = absurd (omega (arith, part.1))
+    part_text (pair ∷ all) old new part = part
 
-    pub pair_writes : (found : Answer) (old new : Option (List ℕ)) (text : List ℕ) (status : ℕ)
-        → Gives check_takes (checked st user subtree) (Ok found) → found ≢ Contained
-        → text ≡ pair_text (record { user = user; subtree = subtree; found = found }) → status ≡ answer_status found → Appends old new text
-        → WritesPairs (here (answer st user subtree)) old new (Ok status)
-    pair_writes found old new text status gives other is status_is written =
-        subst (λ a. WritesPairs (here a) old new (Ok status)) (sym (is_answer found gives))
-        (one_status found ∙ sym status_is, subst (Appends old new) (is ∙ sym (one_text found other)) written)
+    pub stop_reports : (fault : CliFault) (old new : Option (List ℕ)) → WritesPairs how pairs old new (Err fault)
+        → ReportsPairsBy how (Ok pairs) old new (Err fault)
+    stop_reports Write old new part = part_text pairs old new part
+    stop_reports NoMemory old new left = left
+    stop_reports fault old new never = absurd never
 
-    pub pair_stops : (found : Answer) (old new : Option (List ℕ)) (text : List ℕ) → Gives check_takes (checked st user subtree) (Ok found)
-        → found ≢ Contained
-        → text ≡ pair_text (record { user = user; subtree = subtree; found = found }) → AppendsPart old new text
-        → WritesPairs (here (answer st user subtree)) old new (Err Write)
-    pair_stops found old new text gives other is part =
-        subst (λ a. AppendsPart old new (pairs_text (here a))) (sym (is_answer found gives))
-        (subst (AppendsPart old new) (is ∙ sym (one_text found other)) part)
+    pub pairs_report : (status : ℕ) (old new : Option (List ℕ)) → WritesPairs how pairs old new (Ok status) → status ≢ 0
+        → ReportsPairsBy how (Ok pairs) old new (Ok status)
+    pairs_report status old new written other =
+        (written.0, subst (Appends old new) (listed_text (λ zero. other (sym written.0 ∙ zero))) written.1)
 
-    pub fault_wants : (fault : CheckFault) (known : Option (List ℕ)) → Gives check_takes (checked st user subtree) (Err fault)
-        → WritesPairs (here (answer st user subtree)) known known (Err (lifted_check fault))
-    fault_wants RootSubtree known gives =
-        let never : ⊥ = let e = sym (checked-answer st user subtree (sym faultless)) ∙ gives in cc in absurd never
-    fault_wants NoSuchSubtree known gives =
-        let never : ⊥ = let e = sym (checked-answer st user subtree (sym faultless)) ∙ gives in cc in absurd never
-    fault_wants CheckNoMemory known gives = ([], here (answer st user subtree), refl, Appends-nil known)
+    none_listed : (status : ℕ) (old mid : Option (List ℕ)) → WritesPairs how pairs old mid (Ok status) → status ≡ 0 → pairs ≡ []
+    none_listed status old mid written zero = no_status pairs (written.0 ∙ zero)
 
-pub wants : (pairs : List Listed) (known : Option (List ℕ)) → WritesPairs pairs known known (Err NoMemory)
-wants pairs known = ([], pairs, refl, Appends-nil known)
+    pub contained_reports : (status : ℕ) (old mid new : Option (List ℕ)) → WritesPairs how pairs old mid (Ok status) → status ≡ 0
+        → Appends mid new (listing_by how []) → ReportsPairsBy how (Ok pairs) old new (Ok status)
+    contained_reports status old mid new written zero text =
+        let empty = none_listed status old mid written zero in (
+          written.0,
+          subst (λ l. Appends old new (listing_by how l)) (sym empty)
+              (Appends-trans old mid new [] (listing_by how []) (subst (λ l. Appends old mid (pairs_by how l)) empty written.1) text),
+        )
 
--- ---- all pairs
+    pub contained_wants : (status : ℕ) (old new : Option (List ℕ)) → WritesPairs how pairs old new (Ok status)
+        → ReportsPairsBy how (Ok pairs) old new (Err NoMemory)
+    contained_wants status old new written = (pairs, [], append-nil pairs, written.1)
 
-pub fault_said : (fault : CliFault) (known : Option (List ℕ)) → ReportsPairs (Err fault) known known (Err fault)
-fault_said NoMemory known = (refl, Keeps-refl known)
-fault_said fault known = (refl, Keeps-refl known)
+    pub contained_part : (status : ℕ) (old mid new : Option (List ℕ)) → WritesPairs how pairs old mid (Ok status) → status ≡ 0
+        → AppendsPart mid new (listing_by how []) → ReportsPairsBy how (Ok pairs) old new (Err Write)
+    contained_part status old mid new written zero part =
+        let empty = none_listed status old mid written zero in
+        subst (λ l. AppendsPart old new (listing_by how l)) (sym empty)
+        (part_behind old mid new [] (listing_by how []) (subst (λ l. Appends old mid (pairs_by how l)) empty written.1) part)
 
--- of some pairs, what their report is where they are written
-module _ (pairs : List Listed) where
-  listed_text : pairs_status pairs ≢ 0 → pairs_text pairs ≡ listing_text pairs
-  listed_text other = by_pairs pairs other
-    where
-      by_pairs : (all : List Listed) → pairs_status all ≢ 0 → pairs_text all ≡ listing_text all
-      by_pairs [] other = absurd (other refl)
-      by_pairs (pair ∷ all) other = refl
+  module _ (st : State) (subtrees : List Names) (pairs : List Listed) where
+    pub subtree_said : (fault : CheckFault) (known : Option (List ℕ)) → Some fault ≡ first (flat_map (subtree_faults st) subtrees)
+        → ReportsPairsBy how (found_unless_fault st subtrees pairs) known known (Err (lifted_check fault))
+    subtree_said fault known is =
+        subst (λ o. ReportsPairsBy how (in_call (unless_fault o pairs)) known known (Err (lifted_check fault))) is
+        (fault_said (lifted_check fault) known)
 
-  part_text : (all : List Listed) (old new : Option (List ℕ)) → AppendsPart old new (pairs_text all)
-      → AppendsPart old new (listing_text all)
-  part_text [] old new part = absurd (omega (arith, part.1))
-  part_text (pair ∷ all) old new part = part
+    module _ (none : None ≡ first (flat_map (subtree_faults st) subtrees)) where
+      pub by_pairs : (old new : Option (List ℕ)) (result : Result ℕ CliFault) → ReportsPairsBy how (Ok pairs) old new result
+          → ReportsPairsBy how (found_unless_fault st subtrees pairs) old new result
+      by_pairs old new result = subst (λ o. ReportsPairsBy how (in_call (unless_fault o pairs)) old new result) none
 
-  pub stop_reports : (fault : CliFault) (old new : Option (List ℕ)) → WritesPairs pairs old new (Err fault)
-      → ReportsPairs (Ok pairs) old new (Err fault)
-  stop_reports Write old new part = part_text pairs old new part
-  stop_reports NoMemory old new left = left
-  stop_reports fault old new never = absurd never
+      pub stop_said : (fault : CliFault) (old new : Option (List ℕ)) → WritesPairs how pairs old new (Err fault)
+          → ReportsPairsBy how (found_unless_fault st subtrees pairs) old new (Err fault)
+      stop_said fault old new written = by_pairs old new (Err fault) (stop_reports pairs fault old new written)
 
-  pub pairs_report : (status : ℕ) (old new : Option (List ℕ)) → WritesPairs pairs old new (Ok status) → status ≢ 0
-      → ReportsPairs (Ok pairs) old new (Ok status)
-  pairs_report status old new written other =
-      (written.0, subst (Appends old new) (listed_text (λ zero. other (sym written.0 ∙ zero))) written.1)
+      pub listing_said : (status : ℕ) (old new : Option (List ℕ)) → WritesPairs how pairs old new (Ok status) → status ≢ 0
+          → ReportsPairsBy how (found_unless_fault st subtrees pairs) old new (Ok status)
+      listing_said status old new written other = by_pairs old new (Ok status) (pairs_report pairs status old new written other)
 
-  none_listed : (status : ℕ) (old mid : Option (List ℕ)) → WritesPairs pairs old mid (Ok status) → status ≡ 0 → pairs ≡ []
-  none_listed status old mid written zero = no_status pairs (written.0 ∙ zero)
+      pub contained_said : (status : ℕ) (old mid new : Option (List ℕ)) → WritesPairs how pairs old mid (Ok status) → status ≡ 0
+          → Appends mid new (listing_by how []) → ReportsPairsBy how (found_unless_fault st subtrees pairs) old new (Ok status)
+      contained_said status old mid new written zero text =
+          by_pairs old new (Ok status) (contained_reports pairs status old mid new written zero text)
 
-  pub contained_reports : (status : ℕ) (old mid new : Option (List ℕ)) → WritesPairs pairs old mid (Ok status) → status ≡ 0
-      → Appends mid new (listing_text []) → ReportsPairs (Ok pairs) old new (Ok status)
-  contained_reports status old mid new written zero text =
-      let empty = none_listed status old mid written zero in (
-        written.0,
-        subst (λ l. Appends old new (listing_text l)) (sym empty)
-            (Appends-trans old mid new [] (listing_text []) (subst (λ l. Appends old mid (pairs_text l)) empty written.1) text),
-      )
+      pub contained_stops : (status : ℕ) (old mid new : Option (List ℕ)) → WritesPairs how pairs old mid (Ok status) → status ≡ 0
+          → AppendsPart mid new (listing_by how []) → ReportsPairsBy how (found_unless_fault st subtrees pairs) old new (Err Write)
+      contained_stops status old mid new written zero part =
+          by_pairs old new (Err Write) (contained_part pairs status old mid new written zero part)
 
-  pub contained_part : (status : ℕ) (old mid new : Option (List ℕ)) → WritesPairs pairs old mid (Ok status) → status ≡ 0
-      → AppendsPart mid new (listing_text []) → ReportsPairs (Ok pairs) old new (Err Write)
-  contained_part status old mid new written zero part =
-      let empty = none_listed status old mid written zero in
-      subst (λ l. AppendsPart old new (listing_text l)) (sym empty)
-      (part_behind old mid new [] (listing_text []) (subst (λ l. Appends old mid (pairs_text l)) empty written.1) part)
+  -- ---- what is read before
 
-module _ (st : State) (subtrees : List Names) (pairs : List Listed) where
-  pub subtree_said : (fault : CheckFault) (known : Option (List ℕ)) → Some fault ≡ first (flat_map (subtree_faults st) subtrees)
-      → ReportsPairs (found_unless_fault st subtrees pairs) known known (Err (lifted_check fault))
-  subtree_said fault known is =
-      subst (λ o. ReportsPairs (in_call (unless_fault o pairs)) known known (Err (lifted_check fault))) is
-      (fault_said (lifted_check fault) known)
+  wanted : (report : Result (List Listed) CliFault) (known : Option (List ℕ)) → read_takes_memory report ≡ true
+      → ReportsPairsBy how report known known (Err NoMemory)
+  wanted (Ok found) known some = wants found known
+  wanted (Err fault) known some = (some, Keeps-refl known)
 
-  module _ (none : None ≡ first (flat_map (subtree_faults st) subtrees)) where
-    pub by_pairs : (old new : Option (List ℕ)) (result : Result ℕ CliFault) → ReportsPairs (Ok pairs) old new result
-        → ReportsPairs (found_unless_fault st subtrees pairs) old new result
-    by_pairs old new result = subst (λ o. ReportsPairs (in_call (unless_fault o pairs)) old new result) none
+  pub met_pairs : {A : Type 0} (read : Result A CliFault) (next : A → Result (List Listed) CliFault)
+      → ((x : A) → read_takes_memory (next x) ≡ true)
+      → (fault : CliFault) → IsMet read fault → (known : Option (List ℕ)) → ReportsPairsBy how (read_then read next) known known (Err fault)
+  met_pairs read next needs Write met known = absurd met
+  met_pairs (Ok x) next needs NoMemory met known = wanted (next x) known (needs x)
+  met_pairs (Err fault) next needs NoMemory met known = (met, Keeps-refl known)
+  met_pairs read next needs fault met known =
+      subst (λ found. ReportsPairsBy how (read_then found next) known known (Err fault)) (sym met) (refl, Keeps-refl known)
 
-    pub stop_said : (fault : CliFault) (old new : Option (List ℕ)) → WritesPairs pairs old new (Err fault)
-        → ReportsPairs (found_unless_fault st subtrees pairs) old new (Err fault)
-    stop_said fault old new written = by_pairs old new (Err fault) (stop_reports pairs fault old new written)
+  module _ (tree : Reading) (given : List (ℕ × List ℕ)) (texts : List (List ℕ)) where
+    abbrev read : Result (List Identity × List Names × State) CliFault
+    read = named_read given texts tree
 
-    pub listing_said : (status : ℕ) (old new : Option (List ℕ)) → WritesPairs pairs old new (Ok status) → status ≢ 0
-        → ReportsPairs (found_unless_fault st subtrees pairs) old new (Ok status)
-    listing_said status old new written other = by_pairs old new (Ok status) (pairs_report pairs status old new written other)
+    abbrev next : List Identity × List Names × State → Result (List Listed) CliFault
+    next all = pairs_found all.2 (once same_user all.0) (once same_path all.1)
 
-    pub contained_said : (status : ℕ) (old mid new : Option (List ℕ)) → WritesPairs pairs old mid (Ok status) → status ≡ 0
-        → Appends mid new (listing_text []) → ReportsPairs (found_unless_fault st subtrees pairs) old new (Ok status)
-    contained_said status old mid new written zero text =
-        by_pairs old new (Ok status) (contained_reports pairs status old mid new written zero text)
+    by_all : all_report tree given texts ≡ read_then read next
+    by_all =
+        regrouped (λ X found next. read_then found next) (λ fault. Err fault) (λ X x next. refl) (λ X fault next. refl)
+        (λ users subtrees st. pairs_found st (once same_user users) (once same_path subtrees)) (users_read given) (paths_read texts)
+        (tree_read tree)
 
-    pub contained_stops : (status : ℕ) (old mid new : Option (List ℕ)) → WritesPairs pairs old mid (Ok status) → status ≡ 0
-        → AppendsPart mid new (listing_text []) → ReportsPairs (found_unless_fault st subtrees pairs) old new (Err Write)
-    contained_stops status old mid new written zero part =
-        by_pairs old new (Err Write) (contained_part pairs status old mid new written zero part)
+    fault_reports : (fault : CliFault) → IsMet read fault → (known : Option (List ℕ))
+        → ReportsPairsBy how (all_report tree given texts) known known (Err fault)
+    fault_reports fault met known =
+        subst (λ report. ReportsPairsBy how report known known (Err fault)) (sym by_all)
+        (met_pairs read next
+        (λ all. call_takes
+        (unless_fault (first (flat_map (subtree_faults all.2) (once same_path all.1)))
+        (listed all.2 (once same_user all.0) (once same_path all.1))))
+        fault met known)
 
--- ---- what is read before
+    module _ (users : List Identity) (subtrees : List Names) (st : State) (kept : IsKeptOnce read users subtrees st) where
+      listing_reports : (old new : Option (List ℕ)) (result : Result ℕ CliFault)
+          → ReportsPairsBy how (pairs_found st users subtrees) old new result
+          → ReportsPairsBy how (all_report tree given texts) old new result
+      listing_reports old new result =
+          subst (λ report. ReportsPairsBy how report old new result)
+          (sym (by_all ∙ ap (λ found. read_then found next) kept.is ∙ sym (λ i. pairs_found st (kept.of_users i) (kept.of_subtrees i))))
 
-wanted : (report : Result (List Listed) CliFault) (known : Option (List ℕ)) → read_takes_memory report ≡ true
-    → ReportsPairs report known known (Err NoMemory)
-wanted (Ok found) known some = wants found known
-wanted (Err fault) known some = (some, Keeps-refl known)
+      unlisted_said : (bytes : List ℕ) → ((start : State) → IsTextOf start bytes → tree ≡ Ok start) → (result : Result ℕ CliFault)
+          → IfOk result (λ status. UnlistedAreContained st users subtrees)
+          → IfOk result
+          (λ status. (start : State) (who : List Identity) (paths : List Names)
+          → IsTextOf start bytes → users_read given ≡ Ok who → paths_read texts ≡ Ok paths
+          → UnlistedAreContained start (once same_user who) (once same_path paths))
+      unlisted_said bytes means (Err fault) said = tt
+      unlisted_said bytes means (Ok status) said = λ start who paths is_start is_who are_paths.
+          subst (λ (all : List Identity × List Names × State). UnlistedAreContained all.2 (once same_user all.0) (once same_path all.1))
+          (same_Ok (kept.all_users, kept.all_subtrees, st) (who, paths, start)
+          (sym kept.is ∙ (λ i. read_in_turn (is_who i) (are_paths i) (tree_read (means start is_start i)))))
+          (subst (λ l. UnlistedAreContained st l (once same_path kept.all_subtrees)) kept.of_users
+          (subst (λ l. UnlistedAreContained st users l) kept.of_subtrees said))
 
-pub met_pairs : {A : Type 0} (read : Result A CliFault) (next : A → Result (List Listed) CliFault)
-    → ((x : A) → read_takes_memory (next x) ≡ true)
-    → (fault : CliFault) → IsMet read fault → (known : Option (List ℕ)) → ReportsPairs (read_then read next) known known (Err fault)
-met_pairs read next needs Write met known = absurd met
-met_pairs (Ok x) next needs NoMemory met known = wanted (next x) known (needs x)
-met_pairs (Err fault) next needs NoMemory met known = (met, Keeps-refl known)
-met_pairs read next needs fault met known =
-    subst (λ found. ReportsPairs (read_then found next) known known (Err fault)) (sym met) (refl, Keeps-refl known)
+    pub all_said : (old new : Option (List ℕ)) (result : Result ℕ CliFault)
+        → NamedReports (ListsUncontained how) tree given texts old new result
+        → ReportsPairsBy how (all_report tree given texts) old new result
+    all_said =
+        by_reading (ListsUncontained how) tree given texts (ReportsPairsBy how (all_report tree given texts)) fault_reports
+        (λ users subtrees st kept old new result said. listing_reports users subtrees st kept old new result said.0)
 
-module _ (tree : Reading) (given : List (ℕ × List ℕ)) (texts : List (List ℕ)) where
-  abbrev read : Result (List Identity × List Names × State) CliFault
-  read = named_read given texts tree
-
-  abbrev next : List Identity × List Names × State → Result (List Listed) CliFault
-  next all = pairs_found all.2 (once same_user all.0) (once same_path all.1)
-
-  by_all : all_report tree given texts ≡ read_then read next
-  by_all =
-      regrouped (λ X found next. read_then found next) (λ fault. Err fault) (λ X x next. refl) (λ X fault next. refl)
-      (λ users subtrees st. pairs_found st (once same_user users) (once same_path subtrees)) (users_read given) (paths_read texts)
-      (tree_read tree)
-
-  fault_reports : (fault : CliFault) → IsMet read fault → (known : Option (List ℕ))
-      → ReportsPairs (all_report tree given texts) known known (Err fault)
-  fault_reports fault met known =
-      subst (λ report. ReportsPairs report known known (Err fault)) (sym by_all)
-      (met_pairs read next
-      (λ all. call_takes
-      (unless_fault (first (flat_map (subtree_faults all.2) (once same_path all.1)))
-      (listed all.2 (once same_user all.0) (once same_path all.1))))
-      fault met known)
-
-  module _ (users : List Identity) (subtrees : List Names) (st : State) (kept : IsKeptOnce read users subtrees st) where
-    listing_reports : (old new : Option (List ℕ)) (result : Result ℕ CliFault)
-        → ReportsPairs (pairs_found st users subtrees) old new result → ReportsPairs (all_report tree given texts) old new result
-    listing_reports old new result =
-        subst (λ report. ReportsPairs report old new result)
-        (sym (by_all ∙ ap (λ found. read_then found next) kept.is ∙ sym (λ i. pairs_found st (kept.of_users i) (kept.of_subtrees i))))
-
-    unlisted_said : (bytes : List ℕ) → ((start : State) → IsTextOf start bytes → tree ≡ Ok start) → (result : Result ℕ CliFault)
-        → IfOk result (λ status. UnlistedAreContained st users subtrees)
-        → IfOk result
-        (λ status. (start : State) (who : List Identity) (paths : List Names)
-        → IsTextOf start bytes → users_read given ≡ Ok who → paths_read texts ≡ Ok paths
-        → UnlistedAreContained start (once same_user who) (once same_path paths))
-    unlisted_said bytes means (Err fault) said = tt
-    unlisted_said bytes means (Ok status) said = λ start who paths is_start is_who are_paths.
-        subst (λ (all : List Identity × List Names × State). UnlistedAreContained all.2 (once same_user all.0) (once same_path all.1))
-        (same_Ok (kept.all_users, kept.all_subtrees, st) (who, paths, start)
-        (sym kept.is ∙ (λ i. read_in_turn (is_who i) (are_paths i) (tree_read (means start is_start i)))))
-        (subst (λ l. UnlistedAreContained st l (once same_path kept.all_subtrees)) kept.of_users
-        (subst (λ l. UnlistedAreContained st users l) kept.of_subtrees said))
-
-  pub all_said : (old new : Option (List ℕ)) (result : Result ℕ CliFault) → NamedReports ListsUncontained tree given texts old new result
-      → ReportsPairs (all_report tree given texts) old new result
-  all_said =
-      by_reading ListsUncontained tree given texts (ReportsPairs (all_report tree given texts)) fault_reports
-      (λ users subtrees st kept old new result said. listing_reports users subtrees st kept old new result said.0)
-
-pub unlisted_contained : (bytes : List ℕ) (given : List (ℕ × List ℕ)) (texts : List (List ℕ)) (old new : Option (List ℕ))
-    (result : Result ℕ CliFault) → OnText bytes (λ read. NamedReports ListsUncontained read given texts old new result)
-    → IfOk result
-    (λ status. (start : State) (who : List Identity) (paths : List Names) → IsTextOf start bytes → users_read given ≡ Ok who
-    → paths_read texts ≡ Ok paths → UnlistedAreContained start (once same_user who) (once same_path paths))
-unlisted_contained bytes given texts old new result asked =
-    by_reading ListsUncontained asked.0 given texts
-    (λ old new result. IfOk result
-    (λ status. (start : State) (who : List Identity) (paths : List Names) → IsTextOf start bytes → users_read given ≡ Ok who
-    → paths_read texts ≡ Ok paths → UnlistedAreContained start (once same_user who) (once same_path paths)))
-    (λ fault met known. tt)
-    (λ users subtrees st kept old new result said.
-    unlisted_said asked.0 given texts users subtrees st kept bytes (λ start of_text. one_reading bytes asked.0 (Ok start) asked.1 of_text)
-    result said.1)
-    old new result asked.2
+  pub unlisted_contained : (bytes : List ℕ) (given : List (ℕ × List ℕ)) (texts : List (List ℕ)) (old new : Option (List ℕ))
+      (result : Result ℕ CliFault) → OnText bytes (λ read. NamedReports (ListsUncontained how) read given texts old new result)
+      → IfOk result
+      (λ status. (start : State) (who : List Identity) (paths : List Names) → IsTextOf start bytes → users_read given ≡ Ok who
+      → paths_read texts ≡ Ok paths → UnlistedAreContained start (once same_user who) (once same_path paths))
+  unlisted_contained bytes given texts old new result asked =
+      by_reading (ListsUncontained how) asked.0 given texts
+      (λ old new result. IfOk result
+      (λ status. (start : State) (who : List Identity) (paths : List Names) → IsTextOf start bytes → users_read given ≡ Ok who
+      → paths_read texts ≡ Ok paths → UnlistedAreContained start (once same_user who) (once same_path paths)))
+      (λ fault met known. tt)
+      (λ users subtrees st kept old new result said.
+      unlisted_said asked.0 given texts users subtrees st kept bytes (λ start of_text. one_reading bytes asked.0 (Ok start) asked.1 of_text)
+      result said.1)
+      old new result asked.2

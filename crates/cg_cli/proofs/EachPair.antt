@@ -1,6 +1,6 @@
 -- Pairs that are named one by one: those that aren't contained, and why each is.
-use Rattle.std.proofs.Common.{◌≡◌, ◌≢◌, ℕ, ◌+◌, ◌<◌, ◌≤◌, Bool, true, List, [], ◌∷◌, ◌++◌, map, length, get_or, drop, drop-cons, add-one, Option, None, Result, Ok, Err, IfOk, refl, sym, ap, subst, ◌∙◌, arith}
-use Rattle.std.specs.List.{AllByRecursion, flat_map}
+use Rattle.std.proofs.Common.{◌≡◌, ◌≢◌, ℕ, ◌+◌, ◌<◌, ◌≤◌, true, List, [], ◌∷◌, ◌++◌, map, length, get_or, drop, drop-cons, add-one, Option, None, Result, Ok, Err, IfOk, refl, sym, ap, subst, ◌∙◌, arith}
+use Rattle.std.specs.List.{flat_map}
 use Rattle.std.proofs.lemmas.List.{drop_all}
 use Rattle.std.proofs.lemmas.List.Elements.{All-from_recursion}
 use Rattle.cg_cgroup.specs.Paths.{Names}
@@ -19,17 +19,16 @@ use Rattle.cg_format.specs.Readings.{Reading, OnText}
 use Rattle.cg_format.specs.TextOf.{IsTextOf}
 use Rattle.cg_format.proofs.ReadingLaws.{one_reading}
 use Rattle.cg_cli.specs.Advising.{paired, named_with}
-use Rattle.cg_cli.specs.AllPairs.{read_then, ReportsPairs}
+use Rattle.cg_cli.specs.AllPairs.{Listing, read_then, ReportsPairsBy}
 use Rattle.cg_cli.specs.Asking.{CallEnding, read_in_turn, named_read, read_takes_memory, IsMet, PairsReport}
 use Rattle.cg_cli.specs.Audits.{users_read, paths_read}
-use Rattle.cg_cli.specs.Containment.{in_call}
 use Rattle.cg_cli.specs.EachPair.{pair_listed, pairs_listed, lists_then, pairs_then, audited_unless_fault, UnlistedAsNamed, ListsNamed}
-use Rattle.cg_cli.specs.Explaining.{asked_unless_fault, ReportsTold}
+use Rattle.cg_cli.specs.Explaining.{Writing, asked_unless_fault, ReportsToldBy}
 use Rattle.cg_cli.specs.May.{tree_read}
 use Rattle.cg_cli.specs.Pairs.{pair_given}
 use Rattle.cg_cli.specs.declared.pairs.PairIds.{PairIds}
 use Rattle.cg_faults.specs.declared.fault.CliFault.{CliFault}
-use Rattle.cg_cli.proofs.AllPairs.{Front, ends, met_pairs}
+use Rattle.cg_cli.proofs.AllPairs.{Front, met_pairs}
 use Rattle.cg_cli.proofs.Explaining.{met_asked}
 use Rattle.cg_cli.proofs.NamedPairs.{mapped_again, paired_subtrees, some_paired}
 use Rattle.cg_cli.proofs.NamedReads.{regrouped, by_read}
@@ -41,13 +40,13 @@ unmapped : (kept : List PairOfBoth) → map pair_of kept ≡ [] → kept ≡ []
 unmapped [] none = refl
 unmapped (pair ∷ kept) none = let never : ⊥ = cc in absurd never
 
-module _ (st : State) (kept : List PairOfBoth) (i : ℕ) (pairs : List Listed) (old new : Option (List ℕ)) (worst : ℕ)
-    (far : Front pairs (pairs_listed st (map pair_of (drop i kept))) old new worst) where
+module _ {how : Listing} (st : State) (kept : List PairOfBoth) (i : ℕ) (pairs : List Listed) (old new : Option (List ℕ)) (worst : ℕ)
+    (far : Front how pairs (pairs_listed st (map pair_of (drop i kept))) old new worst) where
   -- the pair at this place is the next
   pub pair_next : (pair : PairOfBoth) → i < length kept → pair ≡ get_or kept i pair
-      → Front pairs (pair_listed st (pair_of pair) ++ pairs_listed st (map pair_of (drop (i + 1) kept))) old new worst
+      → Front how pairs (pair_listed st (pair_of pair) ++ pairs_listed st (map pair_of (drop (i + 1) kept))) old new worst
   pair_next pair within at =
-      subst (λ (rest : List PairOfBoth). Front pairs (pairs_listed st (map pair_of rest)) old new worst)
+      subst (λ (rest : List PairOfBoth). Front how pairs (pairs_listed st (map pair_of rest)) old new worst)
       (drop-cons kept i pair within ∙ (λ j. sym at j ∷ drop (sym (add-one i) j) kept)) far
 
   -- none is left
@@ -118,36 +117,36 @@ module _ {R : Type 0} (Says : Result R CliFault → CallEnding)
       subst (λ report. Says report old new result) (sym (by_all ∙ ap (λ one. read_then one next) is))
       (means st users subtrees old new result said))
 
-pub audit_said : (tree : Reading) (pairs : List PairIds) (old new : Option (List ℕ)) (result : Result ℕ CliFault)
-    → PairsReport ListsNamed tree (map (λ pair. (pair_given pair).0) pairs) (map (λ pair. (pair_given pair).1) pairs) old new result
-    → ReportsPairs (pairs_then audited_unless_fault tree (map pair_given pairs)) old new result
-audit_said tree pairs old new result said =
-    subst (λ report. ReportsPairs report old new result) (sym (of_pairs audited_unless_fault tree pairs))
-    (lists_said ReportsPairs met_pairs audited_unless_fault
+pub audit_said : (how : Listing) (tree : Reading) (pairs : List PairIds) (old new : Option (List ℕ)) (result : Result ℕ CliFault)
+    → PairsReport (ListsNamed how) tree (map (λ pair. (pair_given pair).0) pairs) (map (λ pair. (pair_given pair).1) pairs) old new result
+    → ReportsPairsBy how (pairs_then audited_unless_fault tree (map pair_given pairs)) old new result
+audit_said how tree pairs old new result said =
+    subst (λ report. ReportsPairsBy how report old new result) (sym (of_pairs audited_unless_fault tree pairs))
+    (lists_said (ReportsPairsBy how) (met_pairs how) audited_unless_fault
     (λ st subtrees all. call_takes (unless_fault (first (flat_map (subtree_faults st) subtrees)) (pairs_listed st all)))
-    ListsNamed (λ st users subtrees old new result lists. lists.0) tree (map (λ pair. (pair_given pair).0) pairs)
+    (ListsNamed how) (λ st users subtrees old new result lists. lists.0) tree (map (λ pair. (pair_given pair).0) pairs)
     (map (λ pair. (pair_given pair).1) pairs) old new result said)
 
-pub explain_said : (tree : Reading) (pairs : List PairIds) (old new : Option (List ℕ)) (result : Result ℕ CliFault)
-    → PairsReport (λ st users subtrees. ReportsTold (asked_unless_fault st subtrees (paired users subtrees))) tree
+pub explain_said : (written : Writing) (tree : Reading) (pairs : List PairIds) (old new : Option (List ℕ)) (result : Result ℕ CliFault)
+    → PairsReport (λ st users subtrees. ReportsToldBy written (asked_unless_fault st subtrees (paired users subtrees))) tree
     (map (λ pair. (pair_given pair).0) pairs) (map (λ pair. (pair_given pair).1) pairs) old new result
-    → ReportsTold (pairs_then asked_unless_fault tree (map pair_given pairs)) old new result
-explain_said tree pairs old new result said =
-    subst (λ report. ReportsTold report old new result) (sym (of_pairs asked_unless_fault tree pairs))
-    (lists_said ReportsTold met_asked asked_unless_fault
+    → ReportsToldBy written (pairs_then asked_unless_fault tree (map pair_given pairs)) old new result
+explain_said written tree pairs old new result said =
+    subst (λ report. ReportsToldBy written report old new result) (sym (of_pairs asked_unless_fault tree pairs))
+    (lists_said (ReportsToldBy written) (met_asked written) asked_unless_fault
     (λ st subtrees all. call_takes (unless_fault (first (flat_map (subtree_faults st) subtrees)) (st, all)))
-    (λ st users subtrees. ReportsTold (asked_unless_fault st subtrees (paired users subtrees)))
+    (λ st users subtrees. ReportsToldBy written (asked_unless_fault st subtrees (paired users subtrees)))
     (λ st users subtrees old new result told. told) tree (map (λ pair. (pair_given pair).0) pairs)
     (map (λ pair. (pair_given pair).1) pairs) old new result said)
 
-pub unlisted_said : (bytes : List ℕ) (given : List (ℕ × List ℕ)) (texts : List (List ℕ)) (old new : Option (List ℕ))
-    (result : Result ℕ CliFault) → OnText bytes (λ read. PairsReport ListsNamed read given texts old new result)
+pub unlisted_said : (how : Listing) (bytes : List ℕ) (given : List (ℕ × List ℕ)) (texts : List (List ℕ)) (old new : Option (List ℕ))
+    (result : Result ℕ CliFault) → OnText bytes (λ read. PairsReport (ListsNamed how) read given texts old new result)
     → IfOk result
     (λ status. (start : State) (who : List Identity) (paths : List Names) → IsTextOf start bytes → users_read given ≡ Ok who
     → paths_read texts ≡ Ok paths → UnlistedAsNamed start (paired who paths))
-unlisted_said bytes given texts old new result asked =
-    by_read (named_read given texts asked.0) (λ users subtrees st. named_read given texts asked.0 ≡ Ok (users, subtrees, st)) ListsNamed
-    (λ old new result. IfOk result
+unlisted_said how bytes given texts old new result asked =
+    by_read (named_read given texts asked.0) (λ users subtrees st. named_read given texts asked.0 ≡ Ok (users, subtrees, st))
+    (ListsNamed how) (λ old new result. IfOk result
     (λ status. (start : State) (who : List Identity) (paths : List Names) → IsTextOf start bytes → users_read given ≡ Ok who
     → paths_read texts ≡ Ok paths → UnlistedAsNamed start (paired who paths)))
     (λ fault met known. tt)

@@ -1,5 +1,5 @@
 -- The first of the pairs that are listed, and what is said of it.
-use Rattle.std.proofs.Common.{◌≡◌, ℕ, ◌+◌, ◌<◌, ◌≤◌, false, List, [], ◌∷◌, ◌++◌, length, get_or, drop, drop-cons, add-one, Some, None, Ok, refl, sym, ap, ◌∙◌, subst, arith}
+use Rattle.std.proofs.Common.{◌≡◌, ℕ, ◌+◌, ◌<◌, ◌≤◌, true, false, List, [], ◌∷◌, ◌++◌, length, get_or, drop, drop-cons, add-one, Some, None, Ok, refl, sym, ap, ◌∙◌, subst, arith}
 use Rattle.std.specs.Prelude.{slice_get}
 use Rattle.std.specs.List.{All, flat_map}
 use Rattle.std.proofs.lemmas.List.{drop_all}
@@ -11,13 +11,13 @@ use Rattle.cg_model.specs.Checks.{subtree_faults}
 use Rattle.cg_model.specs.Listed.{Listed, listed_unless_contained, is_contained}
 use Rattle.cg_model.specs.declared.answer.Answer.{Answer}
 use Rattle.cg_model.specs.declared.answer.Answer.TheVariants.{Contained, Escapes, Unsettled}
-use Rattle.cg_report.specs.AnswerLines.{answer_text}
-use Rattle.cg_report.specs.AuditLines.{pair_line}
 use Rattle.cg_cli.specs.declared.answers.audited.Found.{Found}
 use Rattle.cg_cli.specs.Containment.{answer_status}
-use Rattle.cg_cli.specs.FurtherPairs.{first_pair_report}
+use Rattle.cg_cli.specs.Formats.{listing_in, one_in, first_in}
+use Rattle.cg_cli.specs.declared.format.Format.{Format}
+use Rattle.cg_cli.specs.declared.format.Format.TheVariants.{Lines, Json}
 use Rattle.cg_cli.specs.ListedRows.{AreListed}
-use Rattle.cg_cli.specs.Reports.{Report}
+use Rattle.cg_cli.specs.Reports.{Report, takes_memory}
 use Rattle.cg_cli.specs.SettledPairs.{SaysFirst}
 use Rattle.cg_cli.specs.SettledRows.{pair_found, row_pairs, rows_pairs, IsPairLine, IsRowOfLines}
 use Rattle.cg_cli.proofs.SettledPairs.{may_list}
@@ -65,24 +65,37 @@ module _ (users : List Identity) (subtrees : List Names) (rows : List (List Foun
       some_within (x ∷ xs) is = omega arith
 
 -- what is said of a pair that comes first
-pub one_said : (user : Identity) (subtree : Names) (a : Answer) (more rest : List Listed) (text : List ℕ) (status : ℕ)
-    → is_contained a ≡ false → text ≡ pair_line user.uid subtree ++ answer_text subtree a → status ≡ answer_status a
-    → first_pair_report ((listed_unless_contained user subtree a ++ more) ++ rest) ≡ record { text = text; ending = Ok status }
-one_said user subtree Contained more rest text status listed is status_is = cc
-one_said user subtree (Escapes ops) more rest text status listed is status_is =
+pub one_said : (format : Format) (user : Identity) (subtree : Names) (a : Answer) (more rest : List Listed) (text : List ℕ) (status : ℕ)
+    → is_contained a ≡ false → text ≡ one_in format (record { user = user; subtree = subtree; found = a }) → status ≡ answer_status a
+    → first_in format ((listed_unless_contained user subtree a ++ more) ++ rest) ≡ record { text = text; ending = Ok status }
+one_said format user subtree Contained more rest text status listed is status_is = cc
+one_said Lines user subtree (Escapes ops) more rest text status listed is status_is =
     (λ i. record { text = sym is i; ending = Ok (sym status_is i) })
-one_said user subtree (Unsettled failed) more rest text status listed is status_is =
+one_said Lines user subtree (Unsettled failed) more rest text status listed is status_is =
     (λ i. record { text = sym is i; ending = Ok (sym status_is i) })
+one_said Json user subtree (Escapes ops) more rest text status listed is status_is =
+    (λ i. record { text = sym is i; ending = Ok (sym status_is i) })
+one_said Json user subtree (Unsettled failed) more rest text status listed is status_is =
+    (λ i. record { text = sym is i; ending = Ok (sym status_is i) })
+
+pub first_takes : (format : Format) (pairs : List Listed) → takes_memory (first_in format pairs).ending ≡ true
+first_takes Lines pairs = refl
+first_takes Json pairs = refl
+
+pub none_reported : (format : Format) (text : List ℕ) → text ≡ (listing_in format).none
+    → first_in format [] ≡ record { text = text; ending = Ok 0 }
+none_reported Lines text is = λ i. record { text = sym is i; ending = Ok 0 }
+none_reported Json text is = λ i. record { text = sym is i; ending = Ok 0 }
 
 -- nothing is listed of anybody
-pub none_said : (users : List Identity) (subtrees : List Names) (rows : List (List Found)) (i : ℕ) → length users ≤ i
-    → rows_pairs (drop i users) subtrees (drop i rows) ≡ rows_pairs users subtrees rows
-    → first_pair_report (rows_pairs users subtrees rows) ≡ first_pair_report []
-none_said users subtrees rows i all far =
-    ap first_pair_report (sym far ∙ (λ j. rows_pairs (drop_all i users all j) subtrees (drop i rows)))
+pub none_said : (said : List Listed → Report) (users : List Identity) (subtrees : List Names) (rows : List (List Found)) (i : ℕ)
+    → length users ≤ i → rows_pairs (drop i users) subtrees (drop i rows) ≡ rows_pairs users subtrees rows
+    → said (rows_pairs users subtrees rows) ≡ said []
+none_said said users subtrees rows i all far =
+    ap said (sym far ∙ (λ j. rows_pairs (drop_all i users all j) subtrees (drop i rows)))
 
-pub first_says : (st : State) (users : List Identity) (subtrees : List Names) (rows : List (List Found))
+pub first_says : (first_said : List Listed → Report) (st : State) (users : List Identity) (subtrees : List Names) (rows : List (List Found))
     → AreListed st users subtrees rows → first (flat_map (subtree_faults st) subtrees) ≡ None → (said : Report)
-    → first_pair_report (rows_pairs users subtrees rows) ≡ said → SaysFirst st users subtrees said
-first_says st users subtrees rows are none said same =
+    → first_said (rows_pairs users subtrees rows) ≡ said → SaysFirst first_said st users subtrees said
+first_says first_said st users subtrees rows are none said same =
     (Ok (rows_pairs users subtrees rows), may_list st users subtrees rows are none, same)

@@ -37,3 +37,5 @@ pub mod FoundPlaces
 pub mod Knowing
 pub mod Auditing
 pub mod ListedRows
+pub mod AsJson
+pub mod FormatEndings

@@ -235,15 +235,19 @@ advised_said tree pairs old new result said =
     (sym (said_of_read paired_report paired_takes tree given texts users subtrees st is)) advises.0)
     old new result said)
 
-pub contained_said : (bytes : List ℕ) (given : List (ℕ × List ℕ)) (texts : List (List ℕ)) (old new : Option (List ℕ))
-    (result : Result ℕ CliFault) → OnText bytes (λ read. PairsReport AdvisesNamed read given texts old new result) → result ≡ Ok 0
+-- where status 0 means that each is contained as it is named
+pub contained_said : (answers : State → List Identity → List Names → Option (List ℕ) → Option (List ℕ) → Result ℕ CliFault → Type 0)
+    → ((st : State) (users : List Identity) (subtrees : List Names) (old new : Option (List ℕ)) (result : Result ℕ CliFault)
+    → answers st users subtrees old new result → result ≡ Ok 0 → AreContainedAsNamed st (paired users subtrees))
+    → (bytes : List ℕ) (given : List (ℕ × List ℕ)) (texts : List (List ℕ)) (old new : Option (List ℕ))
+    (result : Result ℕ CliFault) → OnText bytes (λ read. PairsReport answers read given texts old new result) → result ≡ Ok 0
     → (start : State) (who : List Identity) (paths : List Names) → IsTextOf start bytes → users_read given ≡ Ok who
     → paths_read texts ≡ Ok paths → AreContainedAsNamed start (paired who paths)
-contained_said bytes given texts old new result asked ended start who paths of_text is_who are_paths =
+contained_said answers law bytes given texts old new result asked ended start who paths of_text is_who are_paths =
     by_read (named_read given texts asked.0) (λ users subtrees st. named_read given texts asked.0 ≡ Ok (users, subtrees, st))
-    AdvisesNamed (λ old new result. result ≡ Ok 0 → AreContainedAsNamed start (paired who paths))
+    answers (λ old new result. result ≡ Ok 0 → AreContainedAsNamed start (paired who paths))
     (λ fault met known none. let never : ⊥ = cc in absurd never)
-    (λ users subtrees st is old new result advises none.
-    named_means asked.0 given texts users subtrees st is (advises.1 none) start who paths
+    (λ users subtrees st is old new result said none.
+    named_means asked.0 given texts users subtrees st is (law st users subtrees old new result said none) start who paths
     (one_reading bytes asked.0 (Ok start) asked.1 of_text) is_who are_paths)
     old new result asked.2 ended

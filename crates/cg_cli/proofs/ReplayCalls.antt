@@ -17,8 +17,11 @@ use Rattle.cg_faults.specs.Faults.{lifted}
 use Rattle.cg_cli.specs.Arguments.{user_read}
 use Rattle.cg_cli.specs.Reports.{Report, fault_report, report_on}
 use Rattle.cg_cli.specs.Courses.{Course, Watched, course_from}
-use Rattle.cg_cli.specs.Replays.{closed, course_read, lines_said, lines_report, replayed}
+use Rattle.cg_cli.specs.ReplayFormats.{in_format}
+use Rattle.cg_cli.specs.Replays.{closed_in, course_read, bytes_said, operations_report, replayed}
 use Rattle.cg_cli.specs.Replaying.{Reporting, AreOf, HasFront, Replays, ReplaysFrom}
+use Rattle.cg_cli.specs.declared.format.Format.{Format}
+use Rattle.cg_cli.specs.declared.replay.protocol.Protocol.{Protocol}
 use Rattle.cg_faults.specs.declared.fault.CliFault.{CliFault}
 use Rattle.cg_faults.specs.declared.fault.CliFault.TheVariants.{Uid, Gids, Read, Write, NoMemory, BadPath}
 use Rattle.cg_cli.proofs.ReportLaws.{handed_on}
@@ -26,16 +29,16 @@ use Rattle.cg_cli.proofs.ReplayReads.{from_replays}
 use Rattle.cg_cgroup.specs.declared.files.Vocabulary.{Vocabulary}
 
 -- the lines, by what the user and the course are
-abbrev lines_by : Vocabulary → Result Identity CliFault → Result Course CliFault → Reporting
-lines_by vocabulary user course ops = report_on user (λ user. report_on course (λ course. lines_said vocabulary course user 0 ops))
+abbrev lines_by : Protocol → Result Identity CliFault → Result Course CliFault → Reporting
+lines_by protocol user course ops = report_on user (λ user. report_on course (λ course. bytes_said protocol course user 0 ops))
 
 -- nothing is said of no operations
-silent : (vocabulary : Vocabulary) (user : Result Identity CliFault) (course : Result Course CliFault)
-    → (lines_by vocabulary user course []).text ≡ []
-unfolding lines_said replayed
-silent vocabulary (Err fault) course = refl
-silent vocabulary (Ok user) (Err fault) = refl
-silent vocabulary (Ok user) (Ok course) = refl
+silent : (protocol : Protocol) (user : Result Identity CliFault) (course : Result Course CliFault)
+    → (lines_by protocol user course []).text ≡ []
+unfolding bytes_said replayed
+silent protocol (Err fault) course = refl
+silent protocol (Ok user) (Err fault) = refl
+silent protocol (Ok user) (Ok course) = refl
 
 -- the faults before the operations
 abbrev is_before : CliFault → Bool
@@ -108,45 +111,48 @@ some_bytes : (known : Option (List ℕ)) → (ops : List ℕ) × AreOf known ops
 some_bytes None = ([], tt)
 some_bytes (Some xs) = (xs, refl)
 
-not_asked : (lines : Reporting) (given old new : Option (List ℕ)) (ended : Result ℕ CliFault)
-    → ((ops : List ℕ) → Replays closed lines ops old new ended) → ReplaysFrom closed lines given given old new ended
-not_asked lines given old new ended replays =
+not_asked : (format : Format) (lines : Reporting) (given old new : Option (List ℕ)) (ended : Result ℕ CliFault)
+    → ((ops : List ℕ) → Replays (closed_in format) lines ops old new ended) → ReplaysFrom (closed_in format) lines given given old new ended
+not_asked format lines given old new ended replays =
     let some = some_bytes given in
-    from_replays closed lines given given old new some.0 ended some.1 (replays some.0)
+    from_replays (closed_in format) lines given given old new some.0 ended some.1 (replays some.0)
 
-module _ (vocabulary : Vocabulary) (tree : Reading) (uid : ℕ) (gids : List ℕ) (subtree : Option (List ℕ)) where
+module _ (format : Format) (vocabulary : Vocabulary) (tree : Reading) (uid : ℕ) (gids : List ℕ) (subtree : Option (List ℕ)) where
+  abbrev protocol : Protocol
+  protocol = in_format format vocabulary
+
   abbrev lines : Reporting
-  lines = lines_report vocabulary tree uid gids subtree
+  lines = operations_report protocol tree uid gids subtree
 
   pub nothing_said : (ops : List ℕ) (known : Option (List ℕ)) → HasFront lines ops known known
   nothing_said ops known = (
     [],
     ops,
     refl,
-    subst (Appends known known) (sym (silent vocabulary (user_read uid gids) (course_read subtree tree)))
+    subst (Appends known known) (sym (silent protocol (user_read uid gids) (course_read subtree tree)))
         (Appends-nil known),
   )
 
   -- a fault before the operations
   said_fault : (ops : List ℕ) (known : Option (List ℕ)) (fault : CliFault) → lines ops ≡ fault_report fault
-      → ((closed (lines ops)).ending ≡ Err fault) × Appends known known (closed (lines ops)).text
+      → ((closed_in format (lines ops)).ending ≡ Err fault) × Appends known known (closed_in format (lines ops)).text
   said_fault ops known fault same =
-      let is = ap closed same in
+      let is = ap (closed_in format) same in
       (ap (λ (r : Report). r.ending) is, subst (Appends known known) (sym (ap (λ (r : Report). r.text) is)) (Appends-nil known))
 
   -- where the user was read
   module _ (user : Identity) (of_user : Ok user ≡ user_read uid gids) where
-    lines_by_course : (read : Result Course CliFault) → course_read subtree tree ≡ read → lines ≡ lines_by vocabulary (Ok user) read
+    lines_by_course : (read : Result Course CliFault) → course_read subtree tree ≡ read → lines ≡ lines_by protocol (Ok user) read
     lines_by_course read of_course =
-        ap (λ u. lines_by vocabulary u (course_read subtree tree)) (sym of_user) ∙ ap (lines_by vocabulary (Ok user)) of_course
+        ap (λ u. lines_by protocol u (course_read subtree tree)) (sym of_user) ∙ ap (lines_by protocol (Ok user)) of_course
 
     -- what is known of the lines of the course that was read
     pub lines_are : (course : Course) → course_read subtree tree ≡ Ok course
-        → (Q : Reporting → Type 0) → Q (λ ops. lines_said vocabulary course user 0 ops) → Q lines
+        → (Q : Reporting → Type 0) → Q (λ ops. bytes_said protocol course user 0 ops) → Q lines
     lines_are course of_course Q known = subst Q (sym (lines_by_course (Ok course) of_course)) known
 
     course_known : (ops : List ℕ) (known : Option (List ℕ)) (fault : CliFault) → (fault ≢ NoMemory → course_read subtree tree ≡ Err fault)
-        → Replays closed lines ops known known (Err fault)
+        → Replays (closed_in format) lines ops known known (Err fault)
     course_known ops known NoMemory is = nothing_said ops known
     course_known ops known Read is =
         let never : false ≡ true = never_after (course_read subtree tree) Read (read_before subtree tree) (is (λ same. cc)) in cc
@@ -157,32 +163,34 @@ module _ (vocabulary : Vocabulary) (tree : Reading) (uid : ℕ) (gids : List ℕ
 
     pub course_fault : (ops : List ℕ) (known : Option (List ℕ)) (fault : CliFault)
         → (fault ≢ NoMemory → course_read subtree tree ≡ Err fault)
-        → (result : Result ℕ CliFault) → IsErrAnd result (λ found. found ≡ fault) → Replays closed lines ops known known result
+        → (result : Result ℕ CliFault) → IsErrAnd result (λ found. found ≡ fault) → Replays (closed_in format) lines ops known known result
     course_fault ops known fault is result handed =
-        handed_on (Replays closed lines ops known known) fault result handed (course_known ops known fault is)
+        handed_on (Replays (closed_in format) lines ops known known) fault result handed (course_known ops known fault is)
 
     pub course_fault_from : (given known : Option (List ℕ)) (fault : CliFault) → (fault ≢ NoMemory → course_read subtree tree ≡ Err fault)
-        → (result : Result ℕ CliFault) → IsErrAnd result (λ found. found ≡ fault) → ReplaysFrom closed lines given given known known result
+        → (result : Result ℕ CliFault) → IsErrAnd result (λ found. found ≡ fault)
+        → ReplaysFrom (closed_in format) lines given given known known result
     course_fault_from given known fault is result handed =
-        not_asked lines given known known result (λ ops. course_fault ops known fault is result handed)
+        not_asked format lines given known known result (λ ops. course_fault ops known fault is result handed)
 
   -- a fault of the user
   user_fault_by : (ops : List ℕ) (known : Option (List ℕ)) (fault : CliFault) (root : Bool) (found : Option Identity)
       → user_read uid gids ≡ cond root (Err Uid) (ok_or found Gids) → cond root (Err Uid) (ok_or found Gids) ≡ Err fault
-      → Replays closed lines ops known known (Err fault)
+      → Replays (closed_in format) lines ops known known (Err fault)
   user_fault_by ops known fault true found e h =
       let is : Uid ≡ fault = cc in
-      subst (λ f. Replays closed lines ops known known (Err f)) is
-      (said_fault ops known Uid (ap (λ u. lines_by vocabulary u (course_read subtree tree) ops) e))
+      subst (λ f. Replays (closed_in format) lines ops known known (Err f)) is
+      (said_fault ops known Uid (ap (λ u. lines_by protocol u (course_read subtree tree) ops) e))
   user_fault_by ops known fault false None e h =
       let is : Gids ≡ fault = cc in
-      subst (λ f. Replays closed lines ops known known (Err f)) is
-      (said_fault ops known Gids (ap (λ u. lines_by vocabulary u (course_read subtree tree) ops) e))
+      subst (λ f. Replays (closed_in format) lines ops known known (Err f)) is
+      (said_fault ops known Gids (ap (λ u. lines_by protocol u (course_read subtree tree) ops) e))
   user_fault_by ops known fault false (Some user) e h = let never : ⊥ = cc in absurd never
 
   pub user_fault_from : (given known : Option (List ℕ)) (fault : CliFault) → Err fault ≡ user_read uid gids
-      → (result : Result ℕ CliFault) → IsErrAnd result (λ found. found ≡ fault) → ReplaysFrom closed lines given given known known result
+      → (result : Result ℕ CliFault) → IsErrAnd result (λ found. found ≡ fault)
+      → ReplaysFrom (closed_in format) lines given given known known result
   user_fault_from given known fault read result handed =
-      handed_on (ReplaysFrom closed lines given given known known) fault result handed
-      (not_asked lines given known known (Err fault)
+      handed_on (ReplaysFrom (closed_in format) lines given given known known) fault result handed
+      (not_asked format lines given known known (Err fault)
       (λ ops. user_fault_by ops known fault (nat_eq uid 0) (user_of uid gids) refl (sym read)))

@@ -11,11 +11,11 @@ use Rattle.cg_cli.specs.Courses.{Course, came_to}
 use Rattle.cg_lines.specs.declared.lines.fault.LineFault.TheVariants.{TooLong, Cut}
 use Rattle.streams.specs.Written.{AppendsPart}
 use Rattle.cg_cli.specs.Reports.{Said}
-use Rattle.cg_cli.specs.Replays.{end_read, end_said, with_front, lines_said}
+use Rattle.cg_cli.specs.Replays.{end_read, end_said, with_front, bytes_said}
 use Rattle.cg_cli.specs.Replaying.{Reporting, whole, Replays, Standing, coming, ending, IsWaiting, Leads, Fed}
 use Rattle.cg_faults.specs.declared.fault.CliFault.{CliFault}
 use Rattle.cg_faults.specs.declared.fault.CliFault.TheVariants.{Line, Write, Read, NoMemory}
-use Rattle.cg_cli.proofs.ReplayReports.{report_of_end}
+use Rattle.cg_cli.proofs.ReplayReports.{said_of_end}
 use Rattle.cg_cli.proofs.ReportLaws.{handed_on}
 
 -- ---- one way after another
@@ -52,8 +52,8 @@ part_behind old mid new front text first part = (
 -- what is said where nothing follows
 quiet : {at : Standing} → IsWaiting at → coming at [] ≡ end_said (ending at)
 quiet {at} waiting =
-    ap (lines_said at.vocabulary at.course at.user at.done) (append-nil at.line)
-    ∙ report_of_end at.vocabulary at.course at.user at.done at.line waiting.one_line
+    ap (bytes_said at.protocol at.course at.user at.done) (append-nil at.line)
+    ∙ said_of_end at.protocol at.course at.user at.done at.line waiting.one_line
 
 -- all was written, and the ending is the report's
 whole_text : (before after : Reporting) (given : List ℕ) (old new : Option (List ℕ)) (ending : Result Course CliFault)

@@ -27,7 +27,7 @@ use Rattle.cg_cli.proofs.Asked.{kept_on, more_on}
 
 module _ (st : State) (user : Identity) (subtree : Names) where
   -- what there is to answer, whatever check answers
-  some_settled : (given : Answer) → (found : Answer) × IsSettledFrom st user subtree given found
+  pub some_settled : (given : Answer) → (found : Answer) × IsSettledFrom st user subtree given found
   some_settled Contained = (Contained, refl)
   some_settled (Escapes ops) = (Escapes ops, refl)
   some_settled (Unsettled failed) =

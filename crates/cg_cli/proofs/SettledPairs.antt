@@ -25,7 +25,7 @@ use Rattle.cg_check.proofs.Checking.{checked-answer, no_fault}
 use Rattle.cg_check.proofs.Pairs.{none-element}
 use Rattle.cg_cli.specs.declared.answers.audited.Found.{Found}
 use Rattle.cg_cli.specs.Audited.{IsKnownFrom}
-use Rattle.cg_cli.specs.FurtherPairs.{listed_with, listed_from, ReportsFirst}
+use Rattle.cg_cli.specs.FurtherPairs.{listed_with, listed_from, ReportsFirstBy}
 use Rattle.cg_cli.specs.FoundPlaces.{found_one}
 use Rattle.cg_cli.specs.ListedRows.{row_of, AreListed}
 use Rattle.cg_cli.proofs.Knowing.{some_known, all-unlisted_settled}
@@ -34,7 +34,7 @@ use Rattle.cg_report.proofs.Shown.{answers_are_shown}
 use Rattle.cg_format.specs.Readings.{Reading, OnText}
 use Rattle.cg_format.specs.TextOf.{IsTextOf}
 use Rattle.cg_format.proofs.ReadingLaws.{one_reading}
-use Rattle.cg_cli.specs.AllPairs.{listing_text, ReportsPairs}
+use Rattle.cg_cli.specs.AllPairs.{Listing, listing_by, ReportsPairsBy}
 use Rattle.cg_cli.specs.Asking.{named_read, read_in_turn, read_takes_memory, IsMet, IsKeptOnce, NamedReports}
 use Rattle.cg_cli.specs.Audits.{users_read, paths_read}
 use Rattle.cg_faults.specs.Faults.{lifted_check}
@@ -175,20 +175,20 @@ module _ (st : State) (users : List Identity) (subtrees : List Names) (rows : Li
       subst (λ o. MayBeFound st users subtrees o (Ok (rows_pairs users subtrees rows))) (sym none)
       (rows_pairs users subtrees rows, (are.found, are.known, listing), refl)
 
-  tells_all : (subtrees ≢ [] → IsWellFormed st) → (old new : Option (List ℕ)) (status : ℕ)
-      → ReportsPairs (Ok (rows_pairs users subtrees rows)) old new (Ok status) → TellsUnsettled st users subtrees old new
-  tells_all formed old new status reports = (
+  tells_all : (how : Listing) → (subtrees ≢ [] → IsWellFormed st) → (old new : Option (List ℕ)) (status : ℕ)
+      → ReportsPairsBy how (Ok (rows_pairs users subtrees rows)) old new (Ok status) → TellsUnsettled how st users subtrees old new
+  tells_all how formed old new status reports = (
     are.found,
-    subst (λ l. Appends old new (listing_text l)) listing reports.1,
+    subst (λ l. Appends old new (listing_by how l)) listing reports.1,
     all-unlisted_settled st users subtrees are.found formed
         (λ k d within. no_fault st (get_or subtrees k d) (sym (none-element (subtree_faults st) subtrees k d within none))) are.known,
   )
 
-  pub tells : (subtrees ≢ [] → IsWellFormed st) → (old new : Option (List ℕ)) (result : Result ℕ CliFault)
-      → ReportsPairs (Ok (rows_pairs users subtrees rows)) old new result
-      → IfOk result (λ status. TellsUnsettled st users subtrees old new)
-  tells formed old new (Ok status) reports = tells_all formed old new status reports
-  tells formed old new (Err fault) reports = tt
+  pub tells : (how : Listing) → (subtrees ≢ [] → IsWellFormed st) → (old new : Option (List ℕ)) (result : Result ℕ CliFault)
+      → ReportsPairsBy how (Ok (rows_pairs users subtrees rows)) old new result
+      → IfOk result (λ status. TellsUnsettled how st users subtrees old new)
+  tells how formed old new (Ok status) reports = tells_all how formed old new status reports
+  tells how formed old new (Err fault) reports = tt
 
 -- ---- one after another
 
@@ -206,28 +206,30 @@ line_shown subtrees found subtree line at =
     subst (λ p. IsShown p found.answer) (sym (at ∙ get_or_default subtrees found.place subtree [] line.0)) line.2
 
 -- the pair of this is the next
-pub row_next : (user : Identity) (subtrees : List Names) (row : List Found) (i : ℕ) (found : Found) (subtree : Names) (pairs : List Listed)
-    (old new : Option (List ℕ)) (worst : ℕ) → i < length row → found ≡ get_or row i found → found.place < length subtrees
-    → subtree ≡ get_or subtrees found.place subtree → Front pairs (row_pairs user subtrees (drop i row)) old new worst
-    → Front pairs (listed_unless_contained user subtree found.answer ++ row_pairs user subtrees (drop (i + 1) row)) old new worst
-row_next user subtrees row i found subtree pairs old new worst within at inside path far =
+pub row_next : {how : Listing} (user : Identity) (subtrees : List Names) (row : List Found) (i : ℕ) (found : Found) (subtree : Names)
+    (pairs : List Listed) (old new : Option (List ℕ)) (worst : ℕ) → i < length row → found ≡ get_or row i found
+    → found.place < length subtrees → subtree ≡ get_or subtrees found.place subtree
+    → Front how pairs (row_pairs user subtrees (drop i row)) old new worst
+    → Front how pairs (listed_unless_contained user subtree found.answer ++ row_pairs user subtrees (drop (i + 1) row)) old new worst
+row_next {how} user subtrees row i found subtree pairs old new worst within at inside path far =
     let same : subtree ≡ get_or subtrees found.place [] = path ∙ get_or_default subtrees found.place subtree [] inside in
-    subst (λ p. Front pairs (listed_unless_contained user p found.answer ++ row_pairs user subtrees (drop (i + 1) row)) old new worst)
+    subst (λ p. Front how pairs (listed_unless_contained user p found.answer ++ row_pairs user subtrees (drop (i + 1) row)) old new worst)
     (sym same)
-    (subst (λ rest. Front pairs (row_pairs user subtrees rest) old new worst)
+    (subst (λ rest. Front how pairs (row_pairs user subtrees rest) old new worst)
     (drop-cons row i found within ∙ (λ j. sym at j ∷ drop (sym (add-one i) j) row)) far)
 
 -- the pairs of this user are the next
-pub rows_next : (users : List Identity) (subtrees : List Names) (rows : List (List Found)) (i : ℕ) (user : Identity) (row : List Found)
-    (pairs : List Listed) (old new : Option (List ℕ)) (worst : ℕ) → i < length users → length rows ≡ length users
-    → user ≡ get_or users i user → row ≡ get_or rows i row → Front pairs (rows_pairs (drop i users) subtrees (drop i rows)) old new worst
-    → Front pairs (row_pairs user subtrees row ++ rows_pairs (drop (i + 1) users) subtrees (drop (i + 1) rows)) old new worst
-rows_next users subtrees rows i user row pairs old new worst within all at row_at far =
+pub rows_next : {how : Listing} (users : List Identity) (subtrees : List Names) (rows : List (List Found)) (i : ℕ) (user : Identity)
+    (row : List Found) (pairs : List Listed) (old new : Option (List ℕ)) (worst : ℕ) → i < length users → length rows ≡ length users
+    → user ≡ get_or users i user → row ≡ get_or rows i row
+    → Front how pairs (rows_pairs (drop i users) subtrees (drop i rows)) old new worst
+    → Front how pairs (row_pairs user subtrees row ++ rows_pairs (drop (i + 1) users) subtrees (drop (i + 1) rows)) old new worst
+rows_next {how} users subtrees rows i user row pairs old new worst within all at row_at far =
     let of_users : drop i users ≡ user ∷ drop (i + 1) users =
     drop-cons users i user within ∙ (λ j. sym at j ∷ drop (sym (add-one i) j) users) in
     let of_rows : drop i rows ≡ row ∷ drop (i + 1) rows =
     drop-cons rows i row (omega (arith, within, all)) ∙ (λ j. sym row_at j ∷ drop (sym (add-one i) j) rows) in
-    subst (λ rest. Front pairs rest old new worst) (λ j. rows_pairs (of_users j) subtrees (of_rows j)) far
+    subst (λ rest. Front how pairs rest old new worst) (λ j. rows_pairs (of_users j) subtrees (of_rows j)) far
 
 pub no_row : (users : List Identity) (subtrees : List Names) (rows : List (List Found)) (i : ℕ) → length users ≤ i
     → rows_pairs (drop i users) subtrees (drop i rows) ≡ []
@@ -307,35 +309,40 @@ settled_said says answers of_fault of_memory found tree given texts =
 
 -- ---- all pairs, one after another
 
-pairs_fault : (known : Option (List ℕ)) (fault : CliFault) → fault ≢ Write → ReportsPairs (Err fault) known known (Err fault)
-pairs_fault known fault other = fault_said fault known
+pairs_fault : (how : Listing) (known : Option (List ℕ)) (fault : CliFault) → fault ≢ Write
+    → ReportsPairsBy how (Err fault) known known (Err fault)
+pairs_fault how known fault other = fault_said how fault known
 
-pairs_memory : (known : Option (List ℕ)) (report : Result (List Listed) CliFault) → read_takes_memory report ≡ true
-    → ReportsPairs report known known (Err NoMemory)
-pairs_memory known (Ok pairs) takes = wants pairs known
-pairs_memory known (Err fault) takes = (takes, Keeps-refl known)
+pairs_memory : (how : Listing) (known : Option (List ℕ)) (report : Result (List Listed) CliFault) → read_takes_memory report ≡ true
+    → ReportsPairsBy how report known known (Err NoMemory)
+pairs_memory how known (Ok pairs) takes = wants how pairs known
+pairs_memory how known (Err fault) takes = (takes, Keeps-refl known)
 
 -- ---- the first alone
 
-first_fault : (known : Option (List ℕ)) (fault : CliFault) → fault ≢ Write → ReportsFirst (Err fault) known known (Err fault)
-first_fault known Write other = absurd (other refl)
-first_fault known NoMemory other = (refl, Keeps-refl known)
-first_fault known fault other = (refl, Keeps-refl known)
+-- by how it is said, which gives a status
+module _ (said : List Listed → Report) (takes_it : (pairs : List Listed) → takes_memory (said pairs).ending ≡ true) where
+  first_fault : (known : Option (List ℕ)) (fault : CliFault) → fault ≢ Write → ReportsFirstBy said (Err fault) known known (Err fault)
+  first_fault known Write other = absurd (other refl)
+  first_fault known NoMemory other = (refl, Keeps-refl known)
+  first_fault known fault other = (refl, Keeps-refl known)
 
-first_memory : (known : Option (List ℕ)) (report : Result (List Listed) CliFault) → read_takes_memory report ≡ true
-    → ReportsFirst report known known (Err NoMemory)
-first_memory known (Ok pairs) takes = (refl, Keeps-refl known)
-first_memory known (Err fault) takes = (takes, Keeps-refl known)
+  first_memory : (known : Option (List ℕ)) (report : Result (List Listed) CliFault) → read_takes_memory report ≡ true
+      → ReportsFirstBy said report known known (Err NoMemory)
+  first_memory known (Ok pairs) takes = (takes_it pairs, Keeps-refl known)
+  first_memory known (Err fault) takes = (takes, Keeps-refl known)
 
-pub first_said : (tree : Reading) (given : List (ℕ × List ℕ)) (texts : List (List ℕ)) (old new : Option (List ℕ))
-    (result : Result ℕ CliFault) → NamedReports (ReportsFound ReportsFirst) tree given texts old new result
-    → ReportsSettled ReportsFirst tree given texts old new result
-first_said =
-    settled_said ReportsFirst (ReportsFound ReportsFirst) first_fault first_memory (λ st users subtrees old new result found. found)
+  pub first_said : (tree : Reading) (given : List (ℕ × List ℕ)) (texts : List (List ℕ)) (old new : Option (List ℕ))
+      (result : Result ℕ CliFault) → NamedReports (ReportsFound (ReportsFirstBy said)) tree given texts old new result
+      → ReportsSettled (ReportsFirstBy said) tree given texts old new result
+  first_said =
+      settled_said (ReportsFirstBy said) (ReportsFound (ReportsFirstBy said)) first_fault first_memory
+      (λ st users subtrees old new result found. found)
 
-module _ (st : State) (users : List Identity) (subtrees : List Names) (known : Option (List ℕ)) where
+module _ (said : List Listed → Report) (takes_it : (pairs : List Listed) → takes_memory (said pairs).ending ≡ true) (st : State)
+    (users : List Identity) (subtrees : List Names) (known : Option (List ℕ)) where
   first_stopped : (fault : CheckFault) → (fault ≢ CheckNoMemory → Some fault ≡ first (flat_map (subtree_faults st) subtrees))
-      → ReportsFound ReportsFirst st users subtrees known known (Err (lifted_check fault))
+      → ReportsFound (ReportsFirstBy said) st users subtrees known known (Err (lifted_check fault))
   first_stopped RootSubtree is = (
     Err (lifted_check RootSubtree),
     subst (λ o. MayBeFound st users subtrees o (Err (lifted_check RootSubtree))) (is (λ same. cc)) refl,
@@ -347,74 +354,81 @@ module _ (st : State) (users : List Identity) (subtrees : List Names) (known : O
     (refl, Keeps-refl known),
   )
   first_stopped CheckNoMemory is =
-      found_wanted ReportsFirst known (first_fault known) (first_memory known) st users subtrees
+      found_wanted (ReportsFirstBy said) known (first_fault said takes_it known) (first_memory said takes_it known) st users subtrees
       (first (flat_map (subtree_faults st) subtrees))
 
-module _ (st : State) (users : List Identity) (subtrees : List Names) where
+module _ (said : List Listed → Report) (takes_it : (pairs : List Listed) → takes_memory (said pairs).ending ≡ true) (st : State)
+    (users : List Identity) (subtrees : List Names) where
   pub first_stops : (fault : CheckFault) → (fault ≢ CheckNoMemory → Some fault ≡ first (flat_map (subtree_faults st) subtrees))
       → (known : Option (List ℕ)) (result : Result ℕ CliFault) → IsErrAnd result (λ found. found ≡ lifted_check fault)
-      → ReportsFound ReportsFirst st users subtrees known known result
+      → ReportsFound (ReportsFirstBy said) st users subtrees known known result
   first_stops fault is known result handed =
-      handed_on (ReportsFound ReportsFirst st users subtrees known known) (lifted_check fault) result handed
-      (first_stopped st users subtrees known fault is)
+      handed_on (ReportsFound (ReportsFirstBy said) st users subtrees known known) (lifted_check fault) result handed
+      (first_stopped said takes_it st users subtrees known fault is)
 
-  pub first_reports : (said : Report) → SaysFirst st users subtrees said → (old new : Option (List ℕ)) (result : Result ℕ CliFault)
-      → Reports said old new result → ReportsFound ReportsFirst st users subtrees old new result
-  first_reports said says old new result written =
-      (says.0, says.1, subst (λ (report : Report). Reports report old new result) (sym says.2) written)
+  pub first_reports : (written : Report) → SaysFirst said st users subtrees written → (old new : Option (List ℕ))
+      (result : Result ℕ CliFault) → Reports written old new result → ReportsFound (ReportsFirstBy said) st users subtrees old new result
+  first_reports written says old new result reports =
+      (says.0, says.1, subst (λ (report : Report). Reports report old new result) (sym says.2) reports)
 
-  pub subtree_found : (fault : CheckFault) (known : Option (List ℕ)) → Some fault ≡ first (flat_map (subtree_faults st) subtrees)
-      → ReportsFound ReportsPairs st users subtrees known known (Err (lifted_check fault))
-  subtree_found fault known is =
+module _ (st : State) (users : List Identity) (subtrees : List Names) where
+  pub subtree_found : (how : Listing) (fault : CheckFault) (known : Option (List ℕ))
+      → Some fault ≡ first (flat_map (subtree_faults st) subtrees)
+      → ReportsFound (ReportsPairsBy how) st users subtrees known known (Err (lifted_check fault))
+  subtree_found how fault known is =
       let none = subst (λ o. MayBeFound st users subtrees o (Err (lifted_check fault))) is refl in
-      (Err (lifted_check fault), none, fault_said (lifted_check fault) known)
+      (Err (lifted_check fault), none, fault_said how (lifted_check fault) known)
 
-  pub memory_wanted : (known : Option (List ℕ)) (result : Result ℕ CliFault) → IsErrAnd result (λ found. found ≡ NoMemory)
-      → ReportsFound ReportsPairs st users subtrees known known result
-  memory_wanted known result is =
-      handed_on (ReportsFound ReportsPairs st users subtrees known known) NoMemory result is
-      (found_wanted ReportsPairs known (pairs_fault known) (pairs_memory known) st users subtrees
+  pub memory_wanted : (how : Listing) (known : Option (List ℕ)) (result : Result ℕ CliFault) → IsErrAnd result (λ found. found ≡ NoMemory)
+      → ReportsFound (ReportsPairsBy how) st users subtrees known known result
+  memory_wanted how known result is =
+      handed_on (ReportsFound (ReportsPairsBy how) st users subtrees known known) NoMemory result is
+      (found_wanted (ReportsPairsBy how) known (pairs_fault how known) (pairs_memory how known) st users subtrees
       (first (flat_map (subtree_faults st) subtrees)))
 
-  pub rows_found : (rows : List (List Found)) → AreListed st users subtrees rows → first (flat_map (subtree_faults st) subtrees) ≡ None
-      → (old new : Option (List ℕ)) (result : Result ℕ CliFault) → ReportsPairs (Ok (rows_pairs users subtrees rows)) old new result
-      → ReportsFound ReportsPairs st users subtrees old new result
-  rows_found rows are none old new result reports =
+  pub rows_found : (how : Listing) (rows : List (List Found)) → AreListed st users subtrees rows
+      → first (flat_map (subtree_faults st) subtrees) ≡ None
+      → (old new : Option (List ℕ)) (result : Result ℕ CliFault) → ReportsPairsBy how (Ok (rows_pairs users subtrees rows)) old new result
+      → ReportsFound (ReportsPairsBy how) st users subtrees old new result
+  rows_found how rows are none old new result reports =
       (Ok (rows_pairs users subtrees rows), may_list st users subtrees rows are none, reports)
 
-pub all_said : (tree : Reading) (given : List (ℕ × List ℕ)) (texts : List (List ℕ)) (old new : Option (List ℕ))
-    (result : Result ℕ CliFault) → NamedReports ListsUnsettled tree given texts old new result
-    → ReportsSettled ReportsPairs tree given texts old new result
-all_said = settled_said ReportsPairs ListsUnsettled pairs_fault pairs_memory (λ st users subtrees old new result said. said.0)
+pub all_said : (how : Listing) (tree : Reading) (given : List (ℕ × List ℕ)) (texts : List (List ℕ)) (old new : Option (List ℕ))
+    (result : Result ℕ CliFault) → NamedReports (ListsUnsettled how) tree given texts old new result
+    → ReportsSettled (ReportsPairsBy how) tree given texts old new result
+all_said how =
+    settled_said (ReportsPairsBy how) (ListsUnsettled how) (pairs_fault how) (pairs_memory how)
+    (λ st users subtrees old new result said. said.0)
 
-module _ (tree : Reading) (given : List (ℕ × List ℕ)) (texts : List (List ℕ)) (users : List Identity) (subtrees : List Names) (st : State)
-    (kept : IsKeptOnce (named_read given texts tree) users subtrees st) where
+module _ (how : Listing) (tree : Reading) (given : List (ℕ × List ℕ)) (texts : List (List ℕ)) (users : List Identity)
+    (subtrees : List Names) (st : State) (kept : IsKeptOnce (named_read given texts tree) users subtrees st) where
   unsettled_said : (bytes : List ℕ) → ((start : State) → IsTextOf start bytes → tree ≡ Ok start) → (result : Result ℕ CliFault)
-      → (old new : Option (List ℕ)) → IfOk result (λ status. TellsUnsettled st users subtrees old new)
+      → (old new : Option (List ℕ)) → IfOk result (λ status. TellsUnsettled how st users subtrees old new)
       → IfOk result
       (λ status. (start : State) (who : List Identity) (paths : List Names)
       → IsTextOf start bytes → users_read given ≡ Ok who → paths_read texts ≡ Ok paths
-      → TellsUnsettled start (once same_user who) (once same_path paths) old new)
+      → TellsUnsettled how start (once same_user who) (once same_path paths) old new)
   unsettled_said bytes means (Err fault) old new said = tt
   unsettled_said bytes means (Ok status) old new said = λ start who paths is_start is_who are_paths.
-      subst (λ (all : List Identity × List Names × State). TellsUnsettled all.2 (once same_user all.0) (once same_path all.1) old new)
+      subst (λ (all : List Identity × List Names × State). TellsUnsettled how all.2 (once same_user all.0) (once same_path all.1) old new)
       (same_Ok (kept.all_users, kept.all_subtrees, st) (who, paths, start)
       (sym kept.is ∙ (λ i. read_in_turn (is_who i) (are_paths i) (tree_read (means start is_start i)))))
-      (subst (λ l. TellsUnsettled st l (once same_path kept.all_subtrees) old new) kept.of_users
-      (subst (λ l. TellsUnsettled st users l old new) kept.of_subtrees said))
+      (subst (λ l. TellsUnsettled how st l (once same_path kept.all_subtrees) old new) kept.of_users
+      (subst (λ l. TellsUnsettled how st users l old new) kept.of_subtrees said))
 
-pub unlisted_settled : (bytes : List ℕ) (given : List (ℕ × List ℕ)) (texts : List (List ℕ)) (old new : Option (List ℕ))
-    (result : Result ℕ CliFault) → OnText bytes (λ read. NamedReports ListsUnsettled read given texts old new result)
+pub unlisted_settled : (how : Listing) (bytes : List ℕ) (given : List (ℕ × List ℕ)) (texts : List (List ℕ))
+    (old new : Option (List ℕ)) (result : Result ℕ CliFault)
+    → OnText bytes (λ read. NamedReports (ListsUnsettled how) read given texts old new result)
     → IfOk result
     (λ status. (start : State) (who : List Identity) (paths : List Names) → IsTextOf start bytes → users_read given ≡ Ok who
-    → paths_read texts ≡ Ok paths → TellsUnsettled start (once same_user who) (once same_path paths) old new)
-unlisted_settled bytes given texts old new result asked =
-    by_reading ListsUnsettled asked.0 given texts
+    → paths_read texts ≡ Ok paths → TellsUnsettled how start (once same_user who) (once same_path paths) old new)
+unlisted_settled how bytes given texts old new result asked =
+    by_reading (ListsUnsettled how) asked.0 given texts
     (λ old new result. IfOk result
     (λ status. (start : State) (who : List Identity) (paths : List Names) → IsTextOf start bytes → users_read given ≡ Ok who
-    → paths_read texts ≡ Ok paths → TellsUnsettled start (once same_user who) (once same_path paths) old new))
+    → paths_read texts ≡ Ok paths → TellsUnsettled how start (once same_user who) (once same_path paths) old new))
     (λ fault met known. tt)
     (λ users subtrees st kept old new result said.
-    unsettled_said asked.0 given texts users subtrees st kept bytes (λ start of_text. one_reading bytes asked.0 (Ok start) asked.1 of_text)
-    result old new said.1)
+    unsettled_said how asked.0 given texts users subtrees st kept bytes
+    (λ start of_text. one_reading bytes asked.0 (Ok start) asked.1 of_text) result old new said.1)
     old new result asked.2

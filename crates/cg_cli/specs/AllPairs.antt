@@ -11,7 +11,7 @@ use Rattle.cg_model.specs.Listed.{Listed, listed, unlisted}
 use Rattle.cg_model.specs.Several.{AreContained}
 use Rattle.cg_model.specs.declared.answer.Answer.{Answer}
 use Rattle.cg_model.specs.declared.answer.Answer.TheVariants.{Contained, Escapes, Unsettled}
-use Rattle.cg_report.specs.PairLines.{pairs_text}
+use Rattle.cg_report.specs.PairLines.{pair_text}
 use Rattle.cg_format.specs.Readings.{Reading}
 use Rattle.cg_cli.specs.Audits.{users_read, paths_read}
 use Rattle.cg_cli.specs.Containment.{in_call}
@@ -37,20 +37,32 @@ pairs_status (pair ∷ pairs) = cond (list_any (λ each. is_escape each.found) (
 abbrev pub worse : ℕ → ℕ → ℕ
 worse status other = cond (nat_eq status 1 || nat_eq other 0) status other
 
-abbrev pub listing_text : List Listed → List ℕ
-listing_text [] = codes "contained\n"
-listing_text (pair ∷ pairs) = pairs_text (pair ∷ pairs)
+-- how a pair is written, and that there is none
+pub record Listing : Type 0 where
+  pub each : Listed → List ℕ
+  pub none : List ℕ
+
+abbrev pub in_lines : Listing
+in_lines = record { each = pair_text; none = codes "contained\n" }
+
+abbrev pub pairs_by : Listing → List Listed → List ℕ
+pairs_by how pairs = flat_map how.each pairs
+
+abbrev pub listing_by : Listing → List Listed → List ℕ
+listing_by how [] = how.none
+listing_by how (pair ∷ pairs) = pairs_by how (pair ∷ pairs)
 
 -- A front of the pairs is written, each of them whole.
-abbrev pub LeavesWhole : List Listed → Option (List ℕ) → Option (List ℕ) → Type 0
-LeavesWhole pairs old new = (front : List Listed) × (back : List Listed) × (front ++ back ≡ pairs) × Appends old new (pairs_text front)
+abbrev pub LeavesWhole : Listing → List Listed → Option (List ℕ) → Option (List ℕ) → Type 0
+LeavesWhole how pairs old new =
+    (front : List Listed) × (back : List Listed) × (front ++ back ≡ pairs) × Appends old new (pairs_by how front)
 
 -- Pairs are written one after another, and give their status; a failed write leaves a part of their text.
-abbrev pub WritesPairs : List Listed → Option (List ℕ) → Option (List ℕ) → Result ℕ CliFault → Type 0
-WritesPairs pairs old new (Ok status) = (pairs_status pairs ≡ status) × Appends old new (pairs_text pairs)
-WritesPairs pairs old new (Err Write) = AppendsPart old new (pairs_text pairs)
-WritesPairs pairs old new (Err NoMemory) = LeavesWhole pairs old new
-WritesPairs pairs old new (Err fault) = ⊥
+abbrev pub WritesPairs : Listing → List Listed → Option (List ℕ) → Option (List ℕ) → Result ℕ CliFault → Type 0
+WritesPairs how pairs old new (Ok status) = (pairs_status pairs ≡ status) × Appends old new (pairs_by how pairs)
+WritesPairs how pairs old new (Err Write) = AppendsPart old new (pairs_by how pairs)
+WritesPairs how pairs old new (Err NoMemory) = LeavesWhole how pairs old new
+WritesPairs how pairs old new (Err fault) = ⊥
 
 -- what follows on what was read, or the fault that it met
 abbrev pub read_then : {A B : Type 0} → Result A CliFault → (A → Result B CliFault) → Result B CliFault
@@ -75,20 +87,24 @@ all_report tree given texts =
 -- What a call that writes one pair after another answers, and has written by then. A status is that of all pairs, whose
 -- text is written. A failed write leaves a part of the text, and out of memory some of the pairs. Any other fault is the
 -- report's, and leaves nothing written.
+abbrev pub ReportsPairsBy : Listing → Result (List Listed) CliFault → Option (List ℕ) → Option (List ℕ) → Result ℕ CliFault → Type 0
+ReportsPairsBy how (Ok pairs) old new (Ok status) = (pairs_status pairs ≡ status) × Appends old new (listing_by how pairs)
+ReportsPairsBy how (Ok pairs) old new (Err Write) = AppendsPart old new (listing_by how pairs)
+ReportsPairsBy how (Ok pairs) old new (Err NoMemory) = LeavesWhole how pairs old new
+ReportsPairsBy how (Ok pairs) old new (Err fault) = ⊥
+ReportsPairsBy how (Err fault) old new (Ok status) = ⊥
+ReportsPairsBy how (Err fault) old new (Err NoMemory) = (takes_memory (Err fault) ≡ true) × Keeps old new
+ReportsPairsBy how (Err fault) old new (Err other) = (fault ≡ other) × Keeps old new
+
 abbrev pub ReportsPairs : Result (List Listed) CliFault → Option (List ℕ) → Option (List ℕ) → Result ℕ CliFault → Type 0
-ReportsPairs (Ok pairs) old new (Ok status) = (pairs_status pairs ≡ status) × Appends old new (listing_text pairs)
-ReportsPairs (Ok pairs) old new (Err Write) = AppendsPart old new (listing_text pairs)
-ReportsPairs (Ok pairs) old new (Err NoMemory) = LeavesWhole pairs old new
-ReportsPairs (Ok pairs) old new (Err fault) = ⊥
-ReportsPairs (Err fault) old new (Ok status) = ⊥
-ReportsPairs (Err fault) old new (Err NoMemory) = (takes_memory (Err fault) ≡ true) × Keeps old new
-ReportsPairs (Err fault) old new (Err other) = (fault ≡ other) × Keeps old new
+ReportsPairs pairs old new result = ReportsPairsBy in_lines pairs old new result
 
 -- Each subtree is contained against the users with whom it isn't listed, all of them together, where there are such.
 abbrev pub UnlistedAreContained : State → List Identity → List Names → Type 0
 UnlistedAreContained st users subtrees = All (λ subtree. unlisted st users subtree ≢ [] → AreContained st (unlisted st users subtree) (subtree ∷ [])) subtrees
 
 -- They are listed, and where there is a status that holds.
-abbrev pub ListsUncontained : State → List Identity → List Names → Option (List ℕ) → Option (List ℕ) → Result ℕ CliFault → Type 0
-ListsUncontained st users subtrees old new result =
-    ReportsPairs (pairs_found st users subtrees) old new result × IfOk result (λ status. UnlistedAreContained st users subtrees)
+abbrev pub ListsUncontained : Listing → State → List Identity → List Names → Option (List ℕ) → Option (List ℕ) → Result ℕ CliFault
+    → Type 0
+ListsUncontained how st users subtrees old new result =
+    ReportsPairsBy how (pairs_found st users subtrees) old new result × IfOk result (λ status. UnlistedAreContained st users subtrees)

@@ -11,8 +11,9 @@ use Rattle.cg_model.specs.Replays.{Progress, stepped}
 use Rattle.cg_model.specs.declared.verdict.Verdict.{Verdict}
 use Rattle.cg_model.specs.declared.verdict.Verdict.TheVariants.{Kept, Broken}
 use Rattle.cg_model.specs.declared.fault.CheckFault.TheVariants.{RootSubtree, NoSuchSubtree}
-use Rattle.cg_report.specs.VerdictLines.{verdict_text}
+use Rattle.cg_cli.specs.ReplayFormats.{verdict_in}
 use Rattle.cg_cli.specs.Reports.{Report}
+use Rattle.cg_cli.specs.declared.format.Format.{Format}
 use Rattle.cg_faults.specs.declared.fault.CliFault.{CliFault}
 use Rattle.cg_faults.specs.declared.fault.CliFault.TheVariants.{Subtree}
 
@@ -60,9 +61,9 @@ verdict_status Kept = 0
 verdict_status (Broken steps clause) = 1
 
 -- What is said at the end: the verdict, where a subtree is watched.
-abbrev pub closing : Course → Report
-closing (Unwatched st) = record { text = []; ending = Ok 0 }
-closing (Watched run) = record { text = verdict_text run.verdict; ending = Ok (verdict_status run.verdict) }
+abbrev pub closing : Format → Course → Report
+closing format (Unwatched st) = record { text = []; ending = Ok 0 }
+closing format (Watched run) = record { text = verdict_in format run.verdict; ending = Ok (verdict_status run.verdict) }
 
 -- what a call came to, as the model sees it
 abbrev pub came_to : {A B : Type 0} → (A → B) → Result A CliFault → Result B CliFault

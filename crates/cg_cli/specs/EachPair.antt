@@ -10,7 +10,7 @@ use Rattle.cg_model.specs.Mends.{Pair}
 use Rattle.cg_model.specs.Several.{AreContained}
 use Rattle.cg_format.specs.Readings.{Reading}
 use Rattle.cg_cli.specs.Advising.{paired, named_with}
-use Rattle.cg_cli.specs.AllPairs.{read_then, found_unless_fault, ReportsPairs}
+use Rattle.cg_cli.specs.AllPairs.{Listing, read_then, found_unless_fault, ReportsPairsBy}
 use Rattle.cg_cli.specs.Audits.{users_read, paths_read}
 use Rattle.cg_cli.specs.Explaining.{asked_unless_fault}
 use Rattle.cg_cli.specs.May.{tree_read}
@@ -51,7 +51,7 @@ UnlistedAsNamed st pairs =
     → AreContained st (unlisted st (named_with pairs pair.subtree) pair.subtree) (pair.subtree ∷ [])) pairs
 
 -- They are listed, and where there is a status that holds.
-abbrev pub ListsNamed : State → List Identity → List Names → Option (List ℕ) → Option (List ℕ) → Result ℕ CliFault → Type 0
-ListsNamed st users subtrees old new result =
-    ReportsPairs (audited_unless_fault st subtrees (paired users subtrees)) old new result
+abbrev pub ListsNamed : Listing → State → List Identity → List Names → Option (List ℕ) → Option (List ℕ) → Result ℕ CliFault → Type 0
+ListsNamed how st users subtrees old new result =
+    ReportsPairsBy how (audited_unless_fault st subtrees (paired users subtrees)) old new result
     × IfOk result (λ status. UnlistedAsNamed st (paired users subtrees))

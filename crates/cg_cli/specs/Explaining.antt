@@ -29,8 +29,12 @@ use Rattle.cg_faults.specs.declared.fault.CliFault.TheVariants.{Write, NoMemory}
 abbrev pub told_status : List Listed → ℕ
 told_status told = cond (list_any (λ each. is_escape each.found) told) 1 (cond (list_any (λ each. not (is_contained each.found)) told) 2 0)
 
-abbrev pub told_text : State → List Listed → List ℕ
-told_text st told = flat_map (pair_lines st) told
+-- how what is told of a pair is written in a state
+abbrev pub Writing : Type 0
+Writing = State → Listed → List ℕ
+
+abbrev pub told_by : Writing → State → List Listed → List ℕ
+told_by written st told = flat_map (written st) told
 
 abbrev pub pair_told : Listed → Pair
 pair_told each = pair_with each.user each.subtree
@@ -49,23 +53,28 @@ AreFrontTold st pairs told = (front : List Pair) × (back : List Pair) × (front
 
 -- Pairs are told one after another, and give their status. A failed write leaves a part of the text of a front of them, and out of
 -- memory the whole text of one.
+abbrev pub TellsPairsBy : Writing → State → List Pair → Option (List ℕ) → Option (List ℕ) → Result ℕ CliFault → Type 0
+TellsPairsBy written st pairs old new (Ok status) =
+    (told : List Listed) × AreTold st pairs told × (told_status told ≡ status) × Appends old new (told_by written st told)
+TellsPairsBy written st pairs old new (Err Write) =
+    (told : List Listed) × AreFrontTold st pairs told × AppendsPart old new (told_by written st told)
+TellsPairsBy written st pairs old new (Err NoMemory) =
+    (told : List Listed) × AreFrontTold st pairs told × Appends old new (told_by written st told)
+TellsPairsBy written st pairs old new (Err fault) = ⊥
+
 abbrev pub TellsPairs : State → List Pair → Option (List ℕ) → Option (List ℕ) → Result ℕ CliFault → Type 0
-TellsPairs st pairs old new (Ok status) =
-    (told : List Listed) × AreTold st pairs told × (told_status told ≡ status) × Appends old new (told_text st told)
-TellsPairs st pairs old new (Err Write) = (told : List Listed) × AreFrontTold st pairs told × AppendsPart old new (told_text st told)
-TellsPairs st pairs old new (Err NoMemory) = (told : List Listed) × AreFrontTold st pairs told × Appends old new (told_text st told)
-TellsPairs st pairs old new (Err fault) = ⊥
+TellsPairs st pairs old new result = TellsPairsBy pair_lines st pairs old new result
 
 -- One pair is told.
-abbrev pub TellsPair : State → Pair → Option (List ℕ) → Option (List ℕ) → Result ℕ CliFault → Type 0
-TellsPair st pair old new (Ok status) =
+abbrev pub TellsPairBy : Writing → State → Pair → Option (List ℕ) → Option (List ℕ) → Result ℕ CliFault → Type 0
+TellsPairBy written st pair old new (Ok status) =
     (found : Answer) × IsSettled st pair.user pair.subtree found × (answer_status found ≡ status)
-    × Appends old new (pair_lines st (record { user = pair.user; subtree = pair.subtree; found = found }))
-TellsPair st pair old new (Err Write) =
+    × Appends old new (written st (record { user = pair.user; subtree = pair.subtree; found = found }))
+TellsPairBy written st pair old new (Err Write) =
     (found : Answer) × IsSettled st pair.user pair.subtree found
-    × AppendsPart old new (pair_lines st (record { user = pair.user; subtree = pair.subtree; found = found }))
-TellsPair st pair old new (Err NoMemory) = Keeps old new
-TellsPair st pair old new (Err fault) = ⊥
+    × AppendsPart old new (written st (record { user = pair.user; subtree = pair.subtree; found = found }))
+TellsPairBy written st pair old new (Err NoMemory) = Keeps old new
+TellsPairBy written st pair old new (Err fault) = ⊥
 
 -- the first fault of the subtrees, in the order of their list, or the state and pairs
 abbrev pub asked_unless_fault : State → List Names → List Pair → Result (State × List Pair) CliFault
@@ -84,8 +93,11 @@ explain_asked tree given texts =
     read_then (tree_read tree) (λ st. pairs_asked st (once same_user users) (once same_path subtrees))))
 
 -- What the call answers, and has written by then. A fault that is met before a pair is told leaves nothing written.
+abbrev pub ReportsToldBy : Writing → Result (State × List Pair) CliFault → Option (List ℕ) → Option (List ℕ) → Result ℕ CliFault → Type 0
+ReportsToldBy written (Ok asked) old new result = TellsPairsBy written asked.0 asked.1 old new result
+ReportsToldBy written (Err fault) old new (Ok status) = ⊥
+ReportsToldBy written (Err fault) old new (Err NoMemory) = (takes_memory (Err fault) ≡ true) × Keeps old new
+ReportsToldBy written (Err fault) old new (Err other) = (fault ≡ other) × Keeps old new
+
 abbrev pub ReportsTold : Result (State × List Pair) CliFault → Option (List ℕ) → Option (List ℕ) → Result ℕ CliFault → Type 0
-ReportsTold (Ok asked) old new result = TellsPairs asked.0 asked.1 old new result
-ReportsTold (Err fault) old new (Ok status) = ⊥
-ReportsTold (Err fault) old new (Err NoMemory) = (takes_memory (Err fault) ≡ true) × Keeps old new
-ReportsTold (Err fault) old new (Err other) = (fault ≡ other) × Keeps old new
+ReportsTold asked old new result = ReportsToldBy pair_lines asked old new result

@@ -87,8 +87,13 @@ first_pair_status (pair ∷ pairs) = answer_status pair.found
 abbrev pub first_pair_report : List Listed → Report
 first_pair_report pairs = record { text = first_pair_text pairs; ending = Ok (first_pair_status pairs) }
 
+-- by how that is said
+abbrev pub ReportsFirstBy : (List Listed → Report) → Result (List Listed) CliFault → Option (List ℕ) → Option (List ℕ)
+    → Result ℕ CliFault → Type 0
+ReportsFirstBy said pairs old new result = Reports (report_on pairs said) old new result
+
 abbrev pub ReportsFirst : Result (List Listed) CliFault → Option (List ℕ) → Option (List ℕ) → Result ℕ CliFault → Type 0
-ReportsFirst pairs old new result = Reports (report_on pairs first_pair_report) old new result
+ReportsFirst pairs old new result = ReportsFirstBy first_pair_report pairs old new result
 
 -- What a call answers, and has written by then, by what it says of pairs that may be listed.
 abbrev pub ReportsFurther : (Result (List Listed) CliFault → Option (List ℕ) → Option (List ℕ) → Result ℕ CliFault → Type 0) → Reading → List (ℕ × List ℕ) → List (List ℕ) → Option (List ℕ) → Option (List ℕ) → Result ℕ CliFault → Type 0

@@ -8,6 +8,7 @@ pub mod Strangers
 pub mod Known
 pub mod May
 pub mod Missing
+pub mod ReplayFormats
 pub mod Courses
 pub mod Replays
 pub mod Replaying
@@ -25,6 +26,8 @@ pub mod FurtherPairs
 pub mod Pairs
 pub mod Everybody
 pub mod Explaining
+pub mod Formats
 pub mod EachPair
 pub mod SettledPairs
 pub mod SettledRows
+pub mod AsJson

@@ -6,16 +6,17 @@ use Rattle.std.specs.Io.{StartsWith}
 use Rattle.std.specs.Io.KnownBytes.{Appends, Keeps, Consumes, IsAtEnd}
 use Rattle.cg_cgroup.specs.Identity.{Identity}
 use Rattle.cg_model.specs.declared.operation.Op.{Op}
-use Rattle.cg_lines.specs.Outcomes.{outcome_text}
 use Rattle.cg_lines.specs.declared.lines.fault.LineFault.TheVariants.{Cut}
 use Rattle.streams.specs.Written.{AppendsPart}
 use Rattle.cg_cli.specs.Reports.{Said, fault_report}
 use Rattle.cg_cli.specs.Courses.{Course, HasMade, state_of, on_course}
-use Rattle.cg_cli.specs.Replays.{most_operations, longest_line, is_newline, outcome_of, end_read, with_front, lines_said}
+use Rattle.cg_cli.specs.ReplayFormats.{outcome_in}
+use Rattle.cg_cli.specs.Replays.{most_operations, longest_line, is_newline, outcome_of, end_read, with_front, bytes_said}
 use Rattle.cg_faults.specs.declared.fault.CliFault.{CliFault}
+use Rattle.cg_cli.specs.declared.format.Format.{Format}
+use Rattle.cg_cli.specs.declared.replay.protocol.Protocol.{Protocol}
 use Rattle.cg_cli.specs.declared.replay.run.Run.{Run}
 use Rattle.cg_faults.specs.declared.fault.CliFault.TheVariants.{Line, Read, Write, NoMemory}
-use Rattle.cg_cgroup.specs.declared.files.Vocabulary.{Vocabulary}
 
 -- ---- at the end
 
@@ -59,24 +60,23 @@ ReplaysFrom close lines before left old new ended = (ops : List ℕ) × AreOf be
 
 -- ---- on the way
 
--- Where a replay stands between two pieces of its input: what `done` lines led to, and the bytes of a begun line. Lines
--- name controllers of the vocabulary.
+-- Where a replay stands between two pieces of its input: what `done` lines led to, and the bytes of a begun line.
 pub record Standing : Type 0 where
-  pub vocabulary : Vocabulary
+  pub protocol : Protocol
   pub course : Course
   pub user : Identity
   pub line : List ℕ
   pub done : ℕ
 
 abbrev pub standing_of : {C : Type 0} → (C → Course) → Run C → Standing
-standing_of view run = record { vocabulary = run.vocabulary; course = view run.course; user = run.user; line = run.line.items; done = run.done }
+standing_of view run = record { protocol = run.protocol; course = view run.course; user = run.user; line = run.line.items; done = run.done }
 
-abbrev pub from_start : Vocabulary → Course → Identity → Standing
-from_start vocabulary course user = record { vocabulary = vocabulary; course = course; user = user; line = []; done = 0 }
+abbrev pub from_start : Protocol → Course → Identity → Standing
+from_start protocol course user = record { protocol = protocol; course = course; user = user; line = []; done = 0 }
 
 -- what will be said of further bytes
 abbrev pub coming : Standing → Reporting
-coming at bytes = lines_said at.vocabulary at.course at.user at.done (at.line ++ bytes)
+coming at bytes = bytes_said at.protocol at.course at.user at.done (at.line ++ bytes)
 
 -- what it comes to where no bytes follow
 abbrev pub ending : Standing → Result Course CliFault
@@ -117,10 +117,11 @@ ReadOn before after had left old new (Err fault) =
     (piece : List ℕ) × IfSome had (λ xs. StartsWith xs piece) × Fed before after piece old new (Err fault)
 
 -- What answering a line led to: its operation was made and its outcome written, or it has a fault.
-abbrev pub Answered : Result Op CliFault → Course → Course → Identity → Option (List ℕ) → Option (List ℕ) → Result (Unit {0}) CliFault → Type 0
-Answered read course now user old new (Ok done) =
-    (op : Op) × (read ≡ Ok op) × (now ≡ on_course course user op) × Appends old new (outcome_text op (outcome_of (state_of course) user op))
-Answered read course now user old new (Err Write) = (op : Op) × (read ≡ Ok op) × AppendsPart old new (outcome_text op (outcome_of (state_of course) user op))
-Answered read course now user old new (Err NoMemory) = Keeps old new
-Answered read course now user old new (Err Read) = ⊥
-Answered read course now user old new (Err fault) = (read ≡ Err fault) × Keeps old new
+abbrev pub Answered : Format → Result Op CliFault → Course → Course → Identity → Option (List ℕ) → Option (List ℕ) → Result (Unit {0}) CliFault → Type 0
+Answered format read course now user old new (Ok done) =
+    (op : Op) × (read ≡ Ok op) × (now ≡ on_course course user op) × Appends old new (outcome_in format op (outcome_of (state_of course) user op))
+Answered format read course now user old new (Err Write) =
+    (op : Op) × (read ≡ Ok op) × AppendsPart old new (outcome_in format op (outcome_of (state_of course) user op))
+Answered format read course now user old new (Err NoMemory) = Keeps old new
+Answered format read course now user old new (Err Read) = ⊥
+Answered format read course now user old new (Err fault) = (read ≡ Err fault) × Keeps old new

@@ -12,9 +12,9 @@ use Rattle.cg_model.specs.Once.{once}
 use Rattle.cg_model.specs.declared.answer.Answer.{Answer}
 use Rattle.cg_model.specs.declared.fault.CheckFault.{CheckFault}
 use Rattle.cg_cli.specs.Audited.{AreKnownWithEach, UnlistedAreSettled}
-use Rattle.cg_cli.specs.FurtherPairs.{listed_from, first_pair_report}
+use Rattle.cg_cli.specs.FurtherPairs.{listed_from}
 use Rattle.cg_format.specs.Readings.{Reading}
-use Rattle.cg_cli.specs.AllPairs.{listing_text, ReportsPairs}
+use Rattle.cg_cli.specs.AllPairs.{Listing, listing_by, ReportsPairsBy}
 use Rattle.cg_cli.specs.Asking.{named_read}
 use Rattle.cg_cli.specs.Reports.{Report, report_on}
 use Rattle.cg_faults.specs.Faults.{lifted_check}
@@ -39,10 +39,10 @@ ReportsFound says st users subtrees old new result =
     × says report old new result
 
 -- what is said of the first of such pairs, where the subtrees have no fault
-abbrev pub SaysFirst : State → List Identity → List Names → Report → Type 0
-SaysFirst st users subtrees said =
+abbrev pub SaysFirst : (List Listed → Report) → State → List Identity → List Names → Report → Type 0
+SaysFirst first_said st users subtrees said =
     (report : Result (List Listed) CliFault)
-    × MayBeFound st users subtrees (first (flat_map (subtree_faults st) subtrees)) report × (report_on report first_pair_report ≡ said)
+    × MayBeFound st users subtrees (first (flat_map (subtree_faults st) subtrees)) report × (report_on report first_said ≡ said)
 
 -- Who and what is named again counts once.
 abbrev pub MayFollow : Result (List Identity × List Names × State) CliFault → Result (List Listed) CliFault → Type 0
@@ -60,12 +60,13 @@ ReportsSettled says tree given texts old new result =
     (report : Result (List Listed) CliFault) × MayReport tree given texts report × says report old new result
 
 -- What is written lists pairs, and each subtree is held against those with whom it isn't listed, together.
-abbrev pub TellsUnsettled : State → List Identity → List Names → Option (List ℕ) → Option (List ℕ) → Type 0
-TellsUnsettled st users subtrees old new =
-    (found : ℕ → ℕ → Answer) × Appends old new (listing_text (listed_from found 0 users subtrees))
+abbrev pub TellsUnsettled : Listing → State → List Identity → List Names → Option (List ℕ) → Option (List ℕ) → Type 0
+TellsUnsettled how st users subtrees old new =
+    (found : ℕ → ℕ → Answer) × Appends old new (listing_by how (listed_from found 0 users subtrees))
     × UnlistedAreSettled st users subtrees found
 
 -- They are listed, and where there is a status what is written tells that.
-abbrev pub ListsUnsettled : State → List Identity → List Names → Option (List ℕ) → Option (List ℕ) → Result ℕ CliFault → Type 0
-ListsUnsettled st users subtrees old new result =
-    ReportsFound ReportsPairs st users subtrees old new result × IfOk result (λ status. TellsUnsettled st users subtrees old new)
+abbrev pub ListsUnsettled : Listing → State → List Identity → List Names → Option (List ℕ) → Option (List ℕ) → Result ℕ CliFault → Type 0
+ListsUnsettled how st users subtrees old new result =
+    ReportsFound (ReportsPairsBy how) st users subtrees old new result
+    × IfOk result (λ status. TellsUnsettled how st users subtrees old new)

@@ -121,7 +121,7 @@ fn lines_unless(is_held: bool, lines: Vec<u8>) -> Result<Option<Vec<u8>>, NoMemo
 }
 
 /// Whether the second row of each subtree holds for all users together.
-fn are_held<H: Hierarchy>(
+pub(crate) fn are_held<H: Hierarchy>(
     alloc: Global,
     tree: &H,
     users: &[User],

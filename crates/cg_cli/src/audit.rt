@@ -99,7 +99,7 @@ fn audited<H: Hierarchy + Drop>(
 }
 
 /// The status of an answer for several users and subtrees.
-fn audit_status(answer: &AllAnswer) -> u8
+pub(crate) fn audit_status(answer: &AllAnswer) -> u8
     ensures { result ≡ audit_status answer.now }
 {
     match answer {

@@ -13,17 +13,23 @@ ghost use Rattle.cg_format.specs.TextOf.{IsTextOf};
 ghost use Rattle.cg_cli.specs.Audits.{users_read, paths_read};
 ghost use Rattle.cg_model.specs.Once.{once};
 ghost use Rattle.cg_cli.specs.Once.{same_user};
-ghost use Rattle.cg_cli.specs.AllPairs.{worse, WritesPairs, pairs_found, all_report, ReportsPairs, UnlistedAreContained, ListsUncontained};
+ghost use Rattle.cg_cli.specs.AllPairs.{worse, WritesPairs, pairs_found, all_report, ReportsPairs, ReportsPairsBy, UnlistedAreContained, ListsUncontained};
+ghost use Rattle.cg_cli.specs.Formats.{listing_in};
+ghost use Rattle.cg_report.specs.AnswerLines.{IsShown};
 ghost use Rattle.cg_cli.specs.Strangers.{IsFirstStranger};
 
+use crate::advise::contained_line;
 use crate::arguments::UserIds;
 use crate::check::status;
+use crate::format::Format;
 use crate::named_question::{NamedQuestion, ask_named};
+use cg_cgroup::memory::NoMemory;
 use cg_cgroup::path::Path;
 use cg_cgroup::user::User;
 use cg_check::{check, first_fault, from_first_unguarded};
 use cg_faults::fault::CliFault;
 use cg_guards::identities::Identities;
+use cg_json::audit::{contained_json, pair_json};
 use cg_model::answer::Answer;
 use cg_model::hierarchy::Hierarchy;
 use cg_report::pair::pair_text;
@@ -53,18 +59,24 @@ pub fn audit_all_bytes<W: Write>(
         (W.contents out.old) (W.contents out.new) result) }
     ensures unlisted { IfOk result (λ status. (st : State) (who : List Identity) (paths : List Names)
         → IsTextOf st tree.now → users_read (map (λ user. (user.uid, user.gids.now)) users.now) ≡ Ok who
-        → paths_read (map (λ subtree. subtree.now) subtrees.now) ≡ Ok paths → UnlistedAreContained st (once same_user who) (once same_path paths)) }
+        → paths_read (map (λ subtree. subtree.now) subtrees.now) ≡ Ok paths
+        → UnlistedAreContained st (once same_user who) (once same_path paths)) }
     ensures stranger { IsFirstStranger tree.now (map (λ user. (user.uid, user.gids.now)) users.now) result stranger.new }
 {
-    ask_named(alloc, &AllPairs, tree, users, subtrees, stranger, out)
+    let asked = AllPairs {
+        format: Format::Lines,
+    };
+    ask_named(alloc, &asked, tree, users, subtrees, stranger, out)
 }
 
-/// Which pairs aren't contained.
+/// Which pairs aren't contained, and how that is written.
 #[derive(Drop)]
-struct AllPairs;
+pub(crate) struct AllPairs {
+    pub format: Format,
+}
 
 impl NamedQuestion for AllPairs {
-    ghost answers = { λ _. ListsUncontained };
+    ghost answers = { λ asked. ListsUncontained (listing_in asked.format) };
 
     fn answer<H: Hierarchy + Drop, W: Write>(
         &self,
@@ -78,6 +90,7 @@ impl NamedQuestion for AllPairs {
             alloc,
             tree,
             subtrees,
+            format: self.format,
         };
         listing.write(users, out)
     }
@@ -89,13 +102,14 @@ struct Listing<'t, H> {
     alloc: Global,
     tree: &'t H,
     subtrees: &'t [Path],
+    format: Format,
 }
 
 impl<H: Hierarchy + Drop> Listing<'_, H> {
     /// Writes all pairs that aren't contained, or that there is none.
     fn write<W: Write>(&self, users: &[User], out: &mut W) -> Result<u8, CliFault>
-        ensures report { ReportsPairs (pairs_found (H.state self.now.tree.now) users.now self.now.subtrees.now)
-            (W.contents out.old) (W.contents out.new) result }
+        ensures report { ReportsPairsBy (listing_in self.now.format)
+            (pairs_found (H.state self.now.tree.now) users.now self.now.subtrees.now) (W.contents out.old) (W.contents out.new) result }
         ensures unlisted { IfOk result (λ status. UnlistedAreContained (H.state self.now.tree.now) users.now self.now.subtrees.now) }
     {
         if let Some(fault) = first_fault(self.tree, self.subtrees) {
@@ -103,7 +117,8 @@ impl<H: Hierarchy + Drop> Listing<'_, H> {
         }
         let status = self.write_pairs(users, out)?;
         if status == 0 {
-            write_whole(out, b"contained\n")?;
+            let text = none_text(self.alloc, self.format)?;
+            write_whole(out, text.as_slice())?;
         }
         Ok(status)
     }
@@ -111,7 +126,8 @@ impl<H: Hierarchy + Drop> Listing<'_, H> {
     /// Writes the pairs of some users. Those before the next who has one are passed over together.
     fn write_pairs<W: Write>(&self, users: &[User], out: &mut W) -> Result<u8, CliFault>
         requires there { first (flat_map (subtree_faults (H.state self.now.tree.now)) self.now.subtrees.now) ≡ None }
-        ensures { WritesPairs (listed (H.state self.now.tree.now) users.now self.now.subtrees.now) (W.contents out.old) (W.contents out.new) result }
+        ensures { WritesPairs (listing_in self.now.format) (listed (H.state self.now.tree.now) users.now self.now.subtrees.now)
+            (W.contents out.old) (W.contents out.new) result }
     {
         let mut worst = 0;
         let identities = Identities::of(self.alloc, users)?;
@@ -126,13 +142,14 @@ impl<H: Hierarchy + Drop> Listing<'_, H> {
     /// Writes the pairs of a user.
     fn write_user<W: Write>(&self, user: &User, out: &mut W) -> Result<u8, CliFault>
         requires there { first (flat_map (subtree_faults (H.state self.now.tree.now)) self.now.subtrees.now) ≡ None }
-        ensures { WritesPairs (listed_of (H.state self.now.tree.now) self.now.subtrees.now user.now) (W.contents out.old) (W.contents out.new) result }
+        ensures { WritesPairs (listing_in self.now.format) (listed_of (H.state self.now.tree.now) self.now.subtrees.now user.now)
+            (W.contents out.old) (W.contents out.new) result }
     {
         let mut worst = 0;
         for subtree in self.subtrees {
             worst = worse(
                 worst,
-                write_pair(self.alloc, self.tree, user, subtree, out)?,
+                write_pair(self.alloc, self.tree, user, subtree, self.format, out)?,
             );
         }
         Ok(worst)
@@ -145,19 +162,48 @@ pub(crate) fn write_pair<H: Hierarchy + Drop, W: Write>(
     tree: &H,
     user: &User,
     subtree: &Path,
+    format: Format,
     out: &mut W,
 ) -> Result<u8, CliFault>
     requires there { first (subtree_faults (H.state tree.now) subtree.now) ≡ None }
-    ensures { WritesPairs (listed_unless_contained user.now subtree.now (answer (H.state tree.now) user.now subtree.now))
-        (W.contents out.old) (W.contents out.new) result }
+    ensures { WritesPairs (listing_in format)
+        (listed_unless_contained user.now subtree.now (answer (H.state tree.now) user.now subtree.now)) (W.contents out.old) (W.contents out.new) result }
 {
     let answer = check(alloc, tree, user, subtree)?;
     if let Answer::Contained = answer {
         return Ok(0);
     }
-    let text = pair_text(alloc, user, subtree, &answer)?;
+    let text = text_of(alloc, user, subtree, &answer, format)?;
     write_whole(out, text.as_slice())?;
     Ok(status(&answer))
+}
+
+/// What is written of a pair that isn't contained.
+pub(crate) fn text_of(
+    alloc: Global,
+    user: &User,
+    subtree: &Path,
+    answer: &Answer,
+    format: Format,
+) -> Result<Vec<u8>, NoMemory>
+    requires { IsShown subtree.now answer.now }
+    ensures { IfOk result (λ text.
+        text.items ≡ (listing_in format).each (record { user = user.now; subtree = subtree.now; found = answer.now })) }
+{
+    match format {
+        Format::Lines => pair_text(alloc, user, subtree, answer),
+        Format::Json => pair_json(alloc, user, subtree, answer),
+    }
+}
+
+/// What is written where there is no pair.
+pub(crate) fn none_text(alloc: Global, format: Format) -> Result<Vec<u8>, NoMemory>
+    ensures { IfOk result (λ text. text.items ≡ (listing_in format).none) }
+{
+    match format {
+        Format::Lines => contained_line(alloc),
+        Format::Json => contained_json(alloc),
+    }
 }
 
 /// The worse of two statuses: 1 before 2, and 2 before 0.

@@ -9,12 +9,14 @@ ghost use Rattle.cg_advice.specs.Ways.{pair_of};
 ghost use Rattle.cg_format.specs.Readings.{OnText};
 ghost use Rattle.cg_format.specs.TextOf.{IsTextOf};
 ghost use Rattle.cg_cli.specs.Advising.{paired};
-ghost use Rattle.cg_cli.specs.AllPairs.{WritesPairs, ReportsPairs};
+ghost use Rattle.cg_cli.specs.AllPairs.{WritesPairs, ReportsPairs, ReportsPairsBy};
 ghost use Rattle.cg_cli.specs.Audits.{users_read, paths_read};
 ghost use Rattle.cg_cli.specs.EachPair.{pairs_listed, audit_pairs_report, UnlistedAsNamed, ListsNamed};
+ghost use Rattle.cg_cli.specs.Formats.{listing_in};
 ghost use Rattle.cg_cli.specs.Pairs.{pair_given};
 
-use crate::audit_all::{worse, write_pair};
+use crate::audit_all::{none_text, worse, write_pair};
+use crate::format::Format;
 use crate::named_question::NamedQuestion;
 use crate::pairs::{PairIds, ask_pairs, paired};
 use cg_advice::pair::Pair;
@@ -47,15 +49,20 @@ pub fn audit_pairs_bytes<W: Write>(
         → IsTextOf st tree.now → users_read (map (λ pair. (pair_given pair).0) pairs.now) ≡ Ok who
         → paths_read (map (λ pair. (pair_given pair).1) pairs.now) ≡ Ok paths → UnlistedAsNamed st (paired who paths)) }
 {
-    ask_pairs(alloc, &NamedPairs, tree, pairs, out)
+    let asked = NamedPairs {
+        format: Format::Lines,
+    };
+    ask_pairs(alloc, &asked, tree, pairs, out)
 }
 
-/// Which of the users aren't contained in the subtree at the same place.
+/// Which of the users aren't contained in the subtree at the same place, and how that is written.
 #[derive(Drop)]
-struct NamedPairs;
+pub(crate) struct NamedPairs {
+    pub format: Format,
+}
 
 impl NamedQuestion for NamedPairs {
-    ghost answers = { λ _. ListsNamed };
+    ghost answers = { λ asked. ListsNamed (listing_in asked.format) };
 
     fn answer<H: Hierarchy + Drop, W: Write>(
         &self,
@@ -69,7 +76,7 @@ impl NamedQuestion for NamedPairs {
             return Err(CliFault::from(fault));
         }
         let pairs = paired(alloc, users, subtrees)?;
-        write_listing(alloc, tree, pairs.as_slice(), out)
+        write_listing(alloc, tree, pairs.as_slice(), self.format, out)
     }
 }
 
@@ -78,14 +85,17 @@ fn write_listing<H: Hierarchy + Drop, W: Write>(
     alloc: Global,
     tree: &H,
     pairs: &[Pair<'_>],
+    format: Format,
     out: &mut W,
 ) -> Result<u8, CliFault>
     requires there { All (λ pair. IsSubtree (H.state tree.now) pair.subtree.now) pairs.now }
-    ensures { ReportsPairs (Ok (pairs_listed (H.state tree.now) (map pair_of pairs.now))) (W.contents out.old) (W.contents out.new) result }
+    ensures { ReportsPairsBy (listing_in format) (Ok (pairs_listed (H.state tree.now) (map pair_of pairs.now)))
+        (W.contents out.old) (W.contents out.new) result }
 {
-    let status = write_pairs(alloc, tree, pairs, out)?;
+    let status = write_pairs(alloc, tree, pairs, format, out)?;
     if status == 0 {
-        write_whole(out, b"contained\n")?;
+        let text = none_text(alloc, format)?;
+        write_whole(out, text.as_slice())?;
     }
     Ok(status)
 }
@@ -95,16 +105,18 @@ fn write_pairs<H: Hierarchy + Drop, W: Write>(
     alloc: Global,
     tree: &H,
     pairs: &[Pair<'_>],
+    format: Format,
     out: &mut W,
 ) -> Result<u8, CliFault>
     requires there { All (λ pair. IsSubtree (H.state tree.now) pair.subtree.now) pairs.now }
-    ensures { WritesPairs (pairs_listed (H.state tree.now) (map pair_of pairs.now)) (W.contents out.old) (W.contents out.new) result }
+    ensures { WritesPairs (listing_in format) (pairs_listed (H.state tree.now) (map pair_of pairs.now))
+        (W.contents out.old) (W.contents out.new) result }
 {
     let mut worst = 0;
     for pair in pairs {
         worst = worse(
             worst,
-            write_pair(alloc, tree, pair.user, pair.subtree, out)?,
+            write_pair(alloc, tree, pair.user, pair.subtree, format, out)?,
         );
     }
     Ok(worst)

@@ -13,20 +13,21 @@ ghost use Rattle.cg_format.specs.Readings.{OnText};
 ghost use Rattle.cg_format.specs.TextOf.{IsTextOf};
 ghost use Rattle.cg_cli.specs.Audits.{users_read, paths_read};
 ghost use Rattle.cg_cli.specs.Once.{same_user};
-ghost use Rattle.cg_cli.specs.AllPairs.{WritesPairs, ReportsPairs};
+ghost use Rattle.cg_cli.specs.AllPairs.{in_lines, WritesPairs, ReportsPairs, ReportsPairsBy};
 ghost use Rattle.cg_cli.specs.Containment.{answer_status};
-ghost use Rattle.cg_cli.specs.FurtherPairs.{first_pair_report, ReportsFirst, ReportsFurther};
+ghost use Rattle.cg_cli.specs.Formats.{listing_in, one_in, first_in};
+ghost use Rattle.cg_cli.specs.FurtherPairs.{ReportsFirst, ReportsFirstBy, ReportsFurther};
 ghost use Rattle.cg_cli.specs.SettledPairs.{ReportsFound, ListsUnsettled, ReportsSettled, SaysFirst, TellsUnsettled};
 ghost use Rattle.cg_cli.specs.SettledRows.{row_pairs, rows_pairs, IsPairLine, IsRowOfLines};
 ghost use Rattle.cg_cli.specs.Strangers.{IsFirstStranger};
-ghost use Rattle.cg_report.specs.AnswerLines.{answer_text, IsShown};
-ghost use Rattle.cg_report.specs.AuditLines.{pair_line};
+ghost use Rattle.cg_report.specs.AnswerLines.{IsShown};
 
 use crate::answers::audited::Found;
 use crate::answers::listing::{Row, listed_rows};
 use crate::arguments::UserIds;
-use crate::audit_all::worse;
+use crate::audit_all::{none_text, text_of, worse};
 use crate::check::status;
+use crate::format::Format;
 use crate::named_question::{NamedQuestion, ask_named};
 use crate::report::write_said;
 use cg_cgroup::memory::NoMemory;
@@ -34,11 +35,11 @@ use cg_cgroup::path::Path;
 use cg_cgroup::user::User;
 use cg_check::first_fault;
 use cg_faults::fault::CliFault;
+use cg_json::audit::pair_json;
 use cg_model::answer::Answer;
 use cg_model::fault::CheckFault;
 use cg_model::hierarchy::Hierarchy;
 use cg_report::audit::uid_pair_text;
-use cg_report::pair::pair_text;
 use std::alloc::Global;
 use std::io::Write;
 use streams::write::write_whole;
@@ -68,18 +69,23 @@ pub fn audit_all_settled_bytes<W: Write>(
     ensures unlisted { IfOk result (λ status. (st : State) (who : List Identity) (paths : List Names)
         → IsTextOf st tree.now → users_read (map (λ user. (user.uid, user.gids.now)) users.now) ≡ Ok who
         → paths_read (map (λ subtree. subtree.now) subtrees.now) ≡ Ok paths
-        → TellsUnsettled st (once same_user who) (once same_path paths) (W.contents out.old) (W.contents out.new)) }
+        → TellsUnsettled in_lines st (once same_user who) (once same_path paths) (W.contents out.old) (W.contents out.new)) }
     ensures stranger { IsFirstStranger tree.now (map (λ user. (user.uid, user.gids.now)) users.now) result stranger.new }
 {
-    ask_named(alloc, &AllPairs, tree, users, subtrees, stranger, out)
+    let asked = AllPairs {
+        format: Format::Lines,
+    };
+    ask_named(alloc, &asked, tree, users, subtrees, stranger, out)
 }
 
-/// Which pairs aren't settled.
+/// Which pairs aren't settled, and how that is written.
 #[derive(Drop)]
-struct AllPairs;
+pub(crate) struct AllPairs {
+    pub format: Format,
+}
 
 impl NamedQuestion for AllPairs {
-    ghost answers = { λ _. ListsUnsettled };
+    ghost answers = { λ asked. ListsUnsettled (listing_in asked.format) };
 
     fn answer<H: Hierarchy + Drop, W: Write>(
         &self,
@@ -89,7 +95,7 @@ impl NamedQuestion for AllPairs {
         subtrees: &[Path],
         out: &mut W,
     ) -> Result<u8, CliFault> {
-        write_found(alloc, tree, users, subtrees, out)
+        write_found(alloc, tree, users, subtrees, self.format, out)
     }
 }
 
@@ -114,15 +120,20 @@ pub fn audit_settled_bytes<W: Write>(
         (W.contents out.old) (W.contents out.new) result) }
     ensures stranger { IsFirstStranger tree.now (map (λ user. (user.uid, user.gids.now)) users.now) result stranger.new }
 {
-    ask_named(alloc, &FirstPair, tree, users, subtrees, stranger, out)
+    let asked = FirstPair {
+        format: Format::Lines,
+    };
+    ask_named(alloc, &asked, tree, users, subtrees, stranger, out)
 }
 
-/// Which is the first of them.
+/// Which is the first of them, and how that is written.
 #[derive(Drop)]
-struct FirstPair;
+pub(crate) struct FirstPair {
+    pub format: Format,
+}
 
 impl NamedQuestion for FirstPair {
-    ghost answers = { λ _. ReportsFound ReportsFirst };
+    ghost answers = { λ asked. ReportsFound (ReportsFirstBy (first_in asked.format)) };
 
     fn answer<H: Hierarchy + Drop, W: Write>(
         &self,
@@ -132,7 +143,7 @@ impl NamedQuestion for FirstPair {
         subtrees: &[Path],
         out: &mut W,
     ) -> Result<u8, CliFault> {
-        let said = first_said(alloc, tree, users, subtrees)?;
+        let said = first_said(alloc, tree, users, subtrees, self.format)?;
         write_said(out, said)
     }
 }
@@ -143,16 +154,17 @@ fn first_said<H: Hierarchy + Drop>(
     tree: &H,
     users: &[User],
     subtrees: &[Path],
+    format: Format,
 ) -> Result<(Vec<u8>, u8), CheckFault>
     ensures { MatchResult result
-        (λ said. SaysFirst (H.state tree.now) users.now subtrees.now (record { text = said.0.items; ending = Ok said.1 }))
+        (λ said. SaysFirst (first_in format) (H.state tree.now) users.now subtrees.now (record { text = said.0.items; ending = Ok said.1 }))
         (λ fault. fault ≢ CheckFault.NoMemory
         → Some fault ≡ first (flat_map (subtree_faults (H.state tree.now)) subtrees.now)) }
 {
     if let Some(fault) = first_fault(tree, subtrees) {
         return Err(fault);
     }
-    match first_listed(alloc, tree, users, subtrees) {
+    match first_listed(alloc, tree, users, subtrees, format) {
         Err(NoMemory) => Err(CheckFault::NoMemory),
         Ok(said) => Ok(said),
     }
@@ -164,13 +176,15 @@ fn first_listed<H: Hierarchy + Drop>(
     tree: &H,
     users: &[User],
     subtrees: &[Path],
+    format: Format,
 ) -> Result<(Vec<u8>, u8), NoMemory>
     requires formed { subtrees.now ≢ [] → IsWellFormed (H.state tree.now) }
     requires there { first (flat_map (subtree_faults (H.state tree.now)) subtrees.now) ≡ None }
-    ensures { IfOk result (λ said. SaysFirst (H.state tree.now) users.now subtrees.now (record { text = said.0.items; ending = Ok said.1 })) }
+    ensures { IfOk result (λ said. SaysFirst (first_in format) (H.state tree.now) users.now subtrees.now
+        (record { text = said.0.items; ending = Ok said.1 })) }
 {
     let rows = listed_rows(alloc, tree, users, subtrees)?;
-    first_of_rows(alloc, users, subtrees, rows.as_slice())
+    first_of_rows(alloc, users, subtrees, rows.as_slice(), format)
 }
 
 /// What is said of the first pair of users' rows, and the status.
@@ -179,21 +193,24 @@ fn first_of_rows(
     users: &[User],
     subtrees: &[Path],
     rows: &[Row],
+    format: Format,
 ) -> Result<(Vec<u8>, u8), NoMemory>
     requires all { length rows.now ≡ length users.now }
     requires lines { All (IsRowOfLines subtrees.now) rows.now }
-    ensures { IfOk result (λ said. first_pair_report (rows_pairs users.now subtrees.now rows.now)
+    ensures { IfOk result (λ said. first_in format (rows_pairs users.now subtrees.now rows.now)
         ≡ record { text = said.0.items; ending = Ok said.1 }) }
 {
     for (place, user) in users.iter().enumerate() {
         match rows[place].as_slice().first() {
             None => {}
             Some(found) => {
-                return pair_said(alloc, user, &subtrees[found.place], &found.answer);
+                let subtree = &subtrees[found.place];
+                return pair_said(alloc, user, subtree, &found.answer, format);
             }
         }
     }
-    Ok((b"contained\n".to_vec(alloc)?, 0))
+    let text = none_text(alloc, format)?;
+    Ok((text, 0))
 }
 
 /// What is said of a pair that isn't contained, and its status.
@@ -202,13 +219,33 @@ fn pair_said(
     user: &User,
     subtree: &Path,
     answer: &Answer,
+    format: Format,
 ) -> Result<(Vec<u8>, u8), NoMemory>
     requires shown { IsShown subtree.now answer.now }
-    ensures text { IfOk result (λ said. said.0.items ≡ pair_line user.now.uid subtree.now ++ answer_text subtree.now answer.now) }
+    ensures text { IfOk result (λ said. said.0.items
+        ≡ one_in format (record { user = user.now; subtree = subtree.now; found = answer.now })) }
     ensures status { IfOk result (λ said. said.1 ≡ answer_status answer.now) }
 {
-    let text = uid_pair_text(alloc, user, subtree, answer)?;
+    let text = one_text(alloc, user, subtree, answer, format)?;
     Ok((text, status(answer)))
+}
+
+/// What is written of a pair that is said alone.
+fn one_text(
+    alloc: Global,
+    user: &User,
+    subtree: &Path,
+    answer: &Answer,
+    format: Format,
+) -> Result<Vec<u8>, NoMemory>
+    requires { IsShown subtree.now answer.now }
+    ensures { IfOk result (λ text.
+        text.items ≡ one_in format (record { user = user.now; subtree = subtree.now; found = answer.now })) }
+{
+    match format {
+        Format::Lines => uid_pair_text(alloc, user, subtree, answer),
+        Format::Json => pair_json(alloc, user, subtree, answer),
+    }
 }
 
 /// Writes all pairs that aren't settled, or that there is none.
@@ -217,17 +254,19 @@ fn write_found<H: Hierarchy + Drop, W: Write>(
     tree: &H,
     users: &[User],
     subtrees: &[Path],
+    format: Format,
     out: &mut W,
 ) -> Result<u8, CliFault>
-    ensures report { ReportsFound ReportsPairs (H.state tree.now) users.now subtrees.now (W.contents out.old) (W.contents out.new) result }
-    ensures unlisted { IfOk result (λ status. TellsUnsettled (H.state tree.now) users.now subtrees.now
+    ensures report { ReportsFound (ReportsPairsBy (listing_in format)) (H.state tree.now) users.now subtrees.now
+        (W.contents out.old) (W.contents out.new) result }
+    ensures unlisted { IfOk result (λ status. TellsUnsettled (listing_in format) (H.state tree.now) users.now subtrees.now
         (W.contents out.old) (W.contents out.new)) }
 {
     if let Some(fault) = first_fault(tree, subtrees) {
         return Err(CliFault::from(fault));
     }
     let rows = listed_rows(alloc, tree, users, subtrees)?;
-    write_listing(alloc, users, subtrees, rows.as_slice(), out)
+    write_listing(alloc, users, subtrees, rows.as_slice(), format, out)
 }
 
 /// Writes the pairs of each user, or that there is none.
@@ -236,15 +275,18 @@ fn write_listing<W: Write>(
     users: &[User],
     subtrees: &[Path],
     rows: &[Row],
+    format: Format,
     out: &mut W,
 ) -> Result<u8, CliFault>
     requires all { length rows.now ≡ length users.now }
     requires lines { All (IsRowOfLines subtrees.now) rows.now }
-    ensures { ReportsPairs (Ok (rows_pairs users.now subtrees.now rows.now)) (W.contents out.old) (W.contents out.new) result }
+    ensures { ReportsPairsBy (listing_in format) (Ok (rows_pairs users.now subtrees.now rows.now))
+        (W.contents out.old) (W.contents out.new) result }
 {
-    let status = write_rows(alloc, users, subtrees, rows, out)?;
+    let status = write_rows(alloc, users, subtrees, rows, format, out)?;
     if status == 0 {
-        write_whole(out, b"contained\n")?;
+        let text = none_text(alloc, format)?;
+        write_whole(out, text.as_slice())?;
     }
     Ok(status)
 }
@@ -255,17 +297,19 @@ fn write_rows<W: Write>(
     users: &[User],
     subtrees: &[Path],
     rows: &[Row],
+    format: Format,
     out: &mut W,
 ) -> Result<u8, CliFault>
     requires all { length rows.now ≡ length users.now }
     requires lines { All (IsRowOfLines subtrees.now) rows.now }
-    ensures { WritesPairs (rows_pairs users.now subtrees.now rows.now) (W.contents out.old) (W.contents out.new) result }
+    ensures { WritesPairs (listing_in format) (rows_pairs users.now subtrees.now rows.now)
+        (W.contents out.old) (W.contents out.new) result }
 {
     let mut worst = 0;
     for (place, user) in users.iter().enumerate() {
         worst = worse(
             worst,
-            write_row(alloc, user, subtrees, rows[place].as_slice(), out)?,
+            write_row(alloc, user, subtrees, rows[place].as_slice(), format, out)?,
         );
     }
     Ok(worst)
@@ -277,15 +321,19 @@ fn write_row<W: Write>(
     user: &User,
     subtrees: &[Path],
     row: &[Found],
+    format: Format,
     out: &mut W,
 ) -> Result<u8, CliFault>
     requires lines { All (IsPairLine subtrees.now) row.now }
-    ensures { WritesPairs (row_pairs user.now subtrees.now row.now) (W.contents out.old) (W.contents out.new) result }
+    ensures { WritesPairs (listing_in format) (row_pairs user.now subtrees.now row.now) (W.contents out.old) (W.contents out.new) result }
 {
     let mut worst = 0;
     for found in row {
         let subtree = &subtrees[found.place];
-        worst = worse(worst, write_pair(alloc, user, subtree, &found.answer, out)?);
+        worst = worse(
+            worst,
+            write_pair(alloc, user, subtree, &found.answer, format, out)?,
+        );
     }
     Ok(worst)
 }
@@ -296,13 +344,15 @@ fn write_pair<W: Write>(
     user: &User,
     subtree: &Path,
     answer: &Answer,
+    format: Format,
     out: &mut W,
 ) -> Result<u8, CliFault>
     requires shown { IsShown subtree.now answer.now }
     requires listed { is_contained answer.now ≡ false }
-    ensures { WritesPairs (listed_unless_contained user.now subtree.now answer.now) (W.contents out.old) (W.contents out.new) result }
+    ensures { WritesPairs (listing_in format) (listed_unless_contained user.now subtree.now answer.now)
+        (W.contents out.old) (W.contents out.new) result }
 {
-    let text = pair_text(alloc, user, subtree, answer)?;
+    let text = text_of(alloc, user, subtree, answer, format)?;
     write_whole(out, text.as_slice())?;
     Ok(status(answer))
 }

@@ -1,27 +1,33 @@
 //! Why every subtree is contained against every user, or why that isn't told.
-ghost use Rattle.std.specs.Prelude.{◌≡◌, ◌≢◌, [], map, None};
+ghost use Rattle.std.specs.Prelude.{◌≡◌, ◌≢◌, [], map, None, IfOk};
 ghost use Rattle.std.specs.List.{All};
 ghost use Rattle.cg_model.specs.Clauses.{first};
 ghost use Rattle.cg_model.specs.Checks.{subtree_faults};
 ghost use Rattle.cg_model.specs.Guards.{IsSubtree};
 ghost use Rattle.cg_model.specs.WellFormed.{IsWellFormed};
 ghost use Rattle.cg_advice.specs.Ways.{pair_of};
+ghost use Rattle.cg_report.specs.AnswerLines.{IsShown};
 ghost use Rattle.cg_format.specs.Readings.{OnText};
 ghost use Rattle.cg_cli.specs.Strangers.{IsFirstStranger};
-ghost use Rattle.cg_cli.specs.Explaining.{TellsPair, TellsPairs, pairs_asked, explain_asked, ReportsTold};
+ghost use Rattle.cg_cli.specs.Explaining.{TellsPairBy, TellsPairsBy, pairs_asked, explain_asked, ReportsTold, ReportsToldBy};
+ghost use Rattle.cg_cli.specs.Formats.{told_in};
 
 use crate::advise::all_pairs;
 use crate::answers::settle::settle;
 use crate::arguments::UserIds;
 use crate::audit_all::worse;
 use crate::check::status;
+use crate::format::Format;
 use crate::named_question::{NamedQuestion, ask_named};
 use cg_advice::pair::Pair;
+use cg_cgroup::memory::NoMemory;
 use cg_cgroup::path::Path;
 use cg_cgroup::user::User;
 use cg_check::first_fault;
+use cg_explain::objects::explained_json;
 use cg_explain::pair::pair_lines;
 use cg_faults::fault::CliFault;
+use cg_model::answer::Answer;
 use cg_model::hierarchy::Hierarchy;
 use std::alloc::Global;
 use std::io::Write;
@@ -50,15 +56,20 @@ pub fn explain_bytes<W: Write>(
         (W.contents out.old) (W.contents out.new) result) }
     ensures stranger { IsFirstStranger tree.now (map (λ user. (user.uid, user.gids.now)) users.now) result stranger.new }
 {
-    ask_named(alloc, &Reasons, tree, users, subtrees, stranger, out)
+    let reasons = Reasons {
+        format: Format::Lines,
+    };
+    ask_named(alloc, &reasons, tree, users, subtrees, stranger, out)
 }
 
-/// Why each subtree is contained, or isn't.
+/// Why each subtree is contained, or isn't, and how that is written.
 #[derive(Drop)]
-struct Reasons;
+pub(crate) struct Reasons {
+    pub format: Format,
+}
 
 impl NamedQuestion for Reasons {
-    ghost answers = { λ _. λ st users subtrees. ReportsTold (pairs_asked st users subtrees) };
+    ghost answers = { λ reasons st users subtrees. ReportsToldBy (told_in reasons.format) (pairs_asked st users subtrees) };
 
     fn answer<H: Hierarchy + Drop, W: Write>(
         &self,
@@ -68,7 +79,7 @@ impl NamedQuestion for Reasons {
         subtrees: &[Path],
         out: &mut W,
     ) -> Result<u8, CliFault> {
-        write_told(alloc, tree, users, subtrees, out)
+        write_told(alloc, tree, users, subtrees, self.format, out)
     }
 }
 
@@ -78,15 +89,17 @@ fn write_told<H: Hierarchy + Drop, W: Write>(
     tree: &H,
     users: &[User],
     subtrees: &[Path],
+    format: Format,
     out: &mut W,
 ) -> Result<u8, CliFault>
-    ensures { ReportsTold (pairs_asked (H.state tree.now) users.now subtrees.now) (W.contents out.old) (W.contents out.new) result }
+    ensures { ReportsToldBy (told_in format) (pairs_asked (H.state tree.now) users.now subtrees.now)
+        (W.contents out.old) (W.contents out.new) result }
 {
     if let Some(fault) = first_fault(tree, subtrees) {
         return Err(CliFault::from(fault));
     }
     let pairs = all_pairs(alloc, users, subtrees)?;
-    write_pairs(alloc, tree, pairs.as_slice(), out)
+    write_pairs(alloc, tree, pairs.as_slice(), format, out)
 }
 
 /// Writes pairs, one after another.
@@ -94,15 +107,16 @@ pub(crate) fn write_pairs<H: Hierarchy + Drop, W: Write>(
     alloc: Global,
     tree: &H,
     pairs: &[Pair<'_>],
+    format: Format,
     out: &mut W,
 ) -> Result<u8, CliFault>
     requires formed { pairs.now ≢ [] → IsWellFormed (H.state tree.now) }
     requires there { All (λ pair. IsSubtree (H.state tree.now) pair.subtree.now) pairs.now }
-    ensures { TellsPairs (H.state tree.now) (map pair_of pairs.now) (W.contents out.old) (W.contents out.new) result }
+    ensures { TellsPairsBy (told_in format) (H.state tree.now) (map pair_of pairs.now) (W.contents out.old) (W.contents out.new) result }
 {
     let mut worst = 0;
     for pair in pairs {
-        worst = worse(worst, write_pair(alloc, tree, pair, out)?);
+        worst = worse(worst, write_pair(alloc, tree, pair, format, out)?);
     }
     Ok(worst)
 }
@@ -112,14 +126,36 @@ fn write_pair<H: Hierarchy + Drop, W: Write>(
     alloc: Global,
     tree: &H,
     pair: &Pair<'_>,
+    format: Format,
     out: &mut W,
 ) -> Result<u8, CliFault>
     requires formed { IsWellFormed (H.state tree.now) }
     requires there { IsSubtree (H.state tree.now) pair.now.subtree.now }
-    ensures { TellsPair (H.state tree.now) (pair_of pair.now) (W.contents out.old) (W.contents out.new) result }
+    ensures { TellsPairBy (told_in format) (H.state tree.now) (pair_of pair.now) (W.contents out.old) (W.contents out.new) result }
 {
     let answer = settle(alloc, tree, pair.user, pair.subtree)?;
-    let text = pair_lines(alloc, tree, pair.user, pair.subtree, &answer)?;
+    let text = told(alloc, tree, pair.user, pair.subtree, &answer, format)?;
     write_whole(out, text.as_slice())?;
     Ok(status(&answer))
+}
+
+/// What is told of a pair.
+fn told<H: Hierarchy>(
+    alloc: Global,
+    tree: &H,
+    user: &User,
+    subtree: &Path,
+    answer: &Answer,
+    format: Format,
+) -> Result<Vec<u8>, NoMemory>
+    requires formed { IsWellFormed (H.state tree.now) }
+    requires subtree { IsSubtree (H.state tree.now) subtree.now }
+    requires answer { IsShown subtree.now answer.now }
+    ensures { IfOk result (λ text.
+        text.items ≡ told_in format (H.state tree.now) (record { user = user.now; subtree = subtree.now; found = answer.now })) }
+{
+    match format {
+        Format::Lines => pair_lines(alloc, tree, user, subtree, answer),
+        Format::Json => explained_json(alloc, tree, user, subtree, answer),
+    }
 }

@@ -3,10 +3,12 @@ ghost use Rattle.std.specs.Prelude.{map};
 ghost use Rattle.cg_format.specs.Readings.{OnText};
 ghost use Rattle.cg_cli.specs.Advising.{paired};
 ghost use Rattle.cg_cli.specs.EachPair.{explain_pairs_asked};
-ghost use Rattle.cg_cli.specs.Explaining.{asked_unless_fault, ReportsTold};
+ghost use Rattle.cg_cli.specs.Explaining.{asked_unless_fault, ReportsTold, ReportsToldBy};
+ghost use Rattle.cg_cli.specs.Formats.{told_in};
 ghost use Rattle.cg_cli.specs.Pairs.{pair_given};
 
 use crate::explain::write_pairs;
+use crate::format::Format;
 use crate::named_question::NamedQuestion;
 use crate::pairs::{PairIds, ask_pairs, paired};
 use cg_cgroup::path::Path;
@@ -31,15 +33,21 @@ pub fn explain_pairs_bytes<W: Write>(
     ensures { OnText tree.now (λ read. ReportsTold (explain_pairs_asked read (map pair_given pairs.now))
         (W.contents out.old) (W.contents out.new) result) }
 {
-    ask_pairs(alloc, &NamedReasons, tree, pairs, out)
+    let reasons = NamedReasons {
+        format: Format::Lines,
+    };
+    ask_pairs(alloc, &reasons, tree, pairs, out)
 }
 
-/// Why each subtree is contained against the user at the same place, or isn't.
+/// Why each subtree is contained against the user at the same place, or isn't, and how that is written.
 #[derive(Drop)]
-struct NamedReasons;
+pub(crate) struct NamedReasons {
+    pub format: Format,
+}
 
 impl NamedQuestion for NamedReasons {
-    ghost answers = { λ _ st users subtrees. ReportsTold (asked_unless_fault st subtrees (paired users subtrees)) };
+    ghost answers = { λ reasons st users subtrees. ReportsToldBy (told_in reasons.format)
+        (asked_unless_fault st subtrees (paired users subtrees)) };
 
     fn answer<H: Hierarchy + Drop, W: Write>(
         &self,
@@ -53,6 +61,6 @@ impl NamedQuestion for NamedReasons {
             return Err(CliFault::from(fault));
         }
         let pairs = paired(alloc, users, subtrees)?;
-        write_pairs(alloc, tree, pairs.as_slice(), out)
+        write_pairs(alloc, tree, pairs.as_slice(), self.format, out)
     }
 }

@@ -4,10 +4,12 @@ ghost use Rattle.std.specs.Option.{option_map};
 ghost use Rattle.cg_format.specs.Readings.{Reading, IsReading, OnText, vocabulary_in};
 ghost use Rattle.cg_cli.specs.Arguments.{user_read};
 ghost use Rattle.cg_cli.specs.Courses.{HasMade, Unwatched as Plain, Watched, came_to};
-ghost use Rattle.cg_cli.specs.Replays.{closed, course_read, lines_report};
+ghost use Rattle.cg_cli.specs.ReplayFormats.{in_format};
+ghost use Rattle.cg_cli.specs.Replays.{closed, closed_in, course_read, lines_report, operations_report};
 ghost use Rattle.cg_cli.specs.Replaying.{standing_of, from_start, coming, whole, IsWaiting, Replays};
 
 use crate::arguments::{UserIds, read_path, read_user};
+use crate::format::Format;
 use crate::reading::read_text;
 use cg_cgroup::files::Vocabulary;
 use cg_cgroup::user::User;
@@ -15,17 +17,19 @@ use cg_faults::fault::CliFault;
 use cg_indexed::indexed::Indexed;
 use cg_runs::replay::Replay;
 use course::{MaybeWatched, OnCourse, write_closing};
+use protocol::Protocol;
 use run::Run;
 use std::alloc::Global;
 use std::io::Write;
 
 mod course;
 mod line;
+mod protocol;
 mod reader;
 mod run;
 
 pub use line::line_end;
-pub use reader::replay_from;
+pub use reader::{replay_from, replay_from_in};
 
 /// Replays operations and writes a line for each: its outcome. Where a subtree is named, a last line says whether it was
 /// kept, with status 0, or what was broken first and after how many steps, with status 1. Else the status is 0.
@@ -47,9 +51,29 @@ pub fn replay_bytes<W: Write>(
         (W.contents out.old) (W.contents out.new) result) }
     ensures user { IfErr (user_read user.entry.uid user.entry.gids.now) (λ fault. result ≡ Err fault) }
 {
+    replay_bytes_in(alloc, Format::Lines, tree, user, subtree, ops, out)
+}
+
+/// The same, written as a format says.
+pub(crate) fn replay_bytes_in<W: Write>(
+    alloc: Global,
+    format: Format,
+    tree: &[u8],
+    user: UserIds<'_>,
+    subtree: Option<&str>,
+    ops: &[u8],
+    out: &mut W,
+) -> Result<u8, CliFault>
+    ensures replays { OnText tree.now (λ read. Replays (closed_in format)
+        (operations_report (in_format format (vocabulary_in tree.now)) read user.entry.uid user.entry.gids.now
+        (option_map (λ text. text.now) subtree.entry)) ops.now
+        (W.contents out.old) (W.contents out.new) result) }
+    ensures user { IfErr (user_read user.entry.uid user.entry.gids.now) (λ fault. result ≡ Err fault) }
+{
     let user = read_user(user)?;
     let (vocabulary, course) = course_of(alloc, tree, subtree)?;
-    slice_closed(alloc, vocabulary, course, user, ops, out)
+    let protocol = Protocol { vocabulary, format };
+    slice_closed(alloc, protocol, course, user, ops, out)
 }
 
 /// The tree of a text, of which a subtree is watched where one is named, and which controllers lines name for it.
@@ -110,18 +134,18 @@ fn watched(
 /// A whole replay over bytes that are all there, and what is said at its end.
 fn slice_closed<C: OnCourse, W: Write>(
     alloc: Global,
-    vocabulary: Vocabulary,
+    protocol: Protocol,
     course: C,
     user: User,
     ops: &[u8],
     out: &mut W,
 ) -> Result<u8, CliFault>
     requires { HasMade 0 (C.course course) }
-    ensures { Replays closed (coming (from_start vocabulary (C.course course) user)) ops.now
+    ensures { Replays (closed_in protocol.format) (coming (from_start protocol (C.course course) user)) ops.now
         (W.contents out.old) (W.contents out.new) result }
 {
-    let course = replay_slice(alloc, Run::new(alloc, course, user, vocabulary), ops, out)?;
-    write_closing(alloc, &course, out)
+    let course = replay_slice(alloc, Run::new(alloc, protocol, course, user), ops, out)?;
+    write_closing(alloc, protocol.format, &course, out)
 }
 
 /// Goes on with a replay over bytes that are all there.

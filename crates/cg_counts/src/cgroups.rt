@@ -1,11 +1,12 @@
 //! Cgroups by path, with kept counts.
-ghost use Rattle.std.specs.Prelude.{◌≡◌, ◌≤◌, true, false, length, take, option_copied, [], Some, IfOk, IfSome, OnOk, OnErr, MatchOption};
+ghost use Rattle.std.specs.Prelude.{◌≡◌, ◌≤◌, true, false, length, take, filter, option_copied, [], Some, IfOk, IfSome, OnOk, OnErr, MatchOption};
 ghost use Rattle.std.specs.Option.{option_map};
 ghost use Rattle.std.specs.FinMap as map;
 ghost use Rattle.cg_cgroup.specs.Paths.{parent, is_root};
 ghost use Rattle.cg_cgroup.specs.Files.{enables};
 ghost use Rattle.cg_model.specs.States.{row_at, count_below, has_child, child_enables, depth_below};
 ghost use Rattle.cg_model.specs.WellFormed.{has_row};
+ghost use Rattle.cg_model.specs.Receiving.{receives};
 ghost use Rattle.cg_model.specs.NearestFull.{NoneIsFull, IsNearestFull};
 ghost use Rattle.cg_counts.specs.Kept.{AreFittedBelow, tree_of, new_held, with_row_of, enabling_held, change_held, change_each_held, tallied_held};
 
@@ -14,6 +15,7 @@ use cg_cgroup::files::{Controller, ControllerSet};
 use cg_cgroup::memory::NoMemory;
 use cg_cgroup::path::Path;
 use cg_cgroup::user::User;
+use cg_model::receiving::receives;
 use cg_places::links::{Link, Tally, climb, leave, place_for, put_limits, put_link, tally_up};
 use cg_places::nodes::{Nodes, count_live, differing, enable, recount};
 use cg_places::path_index::PathIndex;
@@ -237,6 +239,38 @@ impl Cgroups {
         ensures { IfOk result (λ paths. paths.items ≡ map.keys self.now) }
     {
         self.places.paths(alloc)
+    }
+
+    /// Whether a process may come to a path, once it may pass.
+    #[tactic(auto, using(cg_model::proofs::Prefixes::take_whole))]
+    fn receives(&self, user: &User, path: &Path) -> bool
+        ensures { result ≡ receives (tree_of self.now) user.now path.now }
+    {
+        match self.get(path, path.depth()) {
+            Some(cgroup) => receives(user, path, cgroup),
+            None => false,
+        }
+    }
+
+    /// Those of some paths to which a process may come, once it may pass. Fails where memory is wanted.
+    fn receiving(&self, alloc: Global, user: &User, paths: &[Path]) -> Result<Vec<Path>, NoMemory>
+        ensures { IfOk result (λ found. found.items ≡ filter (receives (tree_of self.now) user.now) paths.now) }
+    {
+        let mut found = Vec::new(alloc);
+        for path in paths {
+            if self.receives(user, path) {
+                found.push(path.try_clone(alloc)?)?;
+            }
+        }
+        Ok(found)
+    }
+
+    /// The paths of those cgroups to which a process may come, once it may pass, in order. Fails where memory is wanted.
+    pub fn receivers(&self, alloc: Global, user: &User) -> Result<Vec<Path>, NoMemory>
+        ensures { IfOk result (λ paths. paths.items ≡ filter (receives (tree_of self.now) user.now) (map.keys self.now)) }
+    {
+        let paths = self.paths(alloc)?;
+        self.receiving(alloc, user, &paths)
     }
 
     /// Equal cgroups. Fails where memory is wanted.

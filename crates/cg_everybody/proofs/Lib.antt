@@ -6,3 +6,5 @@ mod AdviceWritten
 mod AdviceLaws
 pub mod Changing
 pub mod Changed
+mod PlainObjects
+mod ObjectLists

@@ -16,6 +16,7 @@ use Rattle.cg_model.specs.States.{State, entry_at, value_at, told_text, paths_of
 use Rattle.cg_model.specs.WellFormed.{enabled_at}
 use Rattle.cg_model.specs.declared.mend.Class.TheVariants.{Owner, Group, Others}
 use Rattle.cg_advice.specs.AdviceLines.{over_lines}
+use Rattle.cg_advice.specs.Found.{Let}
 use Rattle.cg_advice.specs.WayLines.{Spot, chown_by, chmod_by, lines_by}
 use Rattle.cg_advice.specs.declared.ways.Ways.{Ways}
 use Rattle.machine_everybody.specs.Everybody.{Everybody}
@@ -47,9 +48,16 @@ same_spot other each = is_spot_at (take other.1.len other.0) other.1.name each
 abbrev pub spots_met : State → Everybody → List Names → List Spot
 spots_met st asked subtrees = once same_spot (flat_map (entrances st asked) subtrees)
 
+-- by what it lets somebody in
+abbrev pub let_into : Everybody → Spot → Let
+let_into asked spot = (spot.0, spot.1, ways_into asked spot.1.entry)
+
 -- a line for each class that it lets in, and below the last the changes
+abbrev pub let_lines : Let → List ℕ
+let_lines (subtree, at, ways) = lines_by ways subtree at
+
 abbrev pub spot_lines : Everybody → Spot → List ℕ
-spot_lines asked spot = lines_by (ways_into asked spot.1.entry) spot.0 spot.1
+spot_lines asked spot = let_lines (let_into asked spot)
 
 -- The lines of each such entry, and then of the limits of each subtree.
 abbrev pub everybody_advice : State → Everybody → List Names → List ℕ

@@ -3,3 +3,4 @@ pub mod Premises
 pub mod Entrances
 pub mod Advice
 pub mod Explained
+pub mod Objects

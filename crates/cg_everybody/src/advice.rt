@@ -1,18 +1,20 @@
 //! What to change so that nobody is let in who is asked about.
-ghost use Rattle.std.specs.Prelude.{◌≡◌, ◌++◌, map, take, IfOk, OnOk};
+ghost use Rattle.std.specs.Prelude.{◌≡◌, ◌++◌, ◌∷◌, [], map, take, IfOk, OnOk};
 ghost use Rattle.std.specs.List.{All, flat_map};
 ghost use Rattle.cg_cgroup.specs.Files.{entry_text};
 ghost use Rattle.cg_cgroup.specs.Paths.{same_path};
 ghost use Rattle.cg_model.specs.Guards.{IsSubtree};
 ghost use Rattle.cg_model.specs.Once.{once};
 ghost use Rattle.cg_advice.specs.AdviceLines.{over_lines};
-ghost use Rattle.cg_everybody.specs.Advice.{handed_back, ways_into, same_spot, spot_lines, everybody_advice};
+ghost use Rattle.cg_advice.specs.Found.{stand_let};
+ghost use Rattle.cg_everybody.specs.Advice.{handed_back, ways_into, same_spot, let_into, let_lines, everybody_advice};
 ghost use Rattle.cg_everybody.specs.Everybody.{entrances, everybody_of};
 ghost use Rattle.cg_everybody.specs.Entrances.{entrance_spot};
 
 use crate::asked::Asked;
 use crate::entrance::Entrance;
 use crate::walk::Walk;
+use cg_advice::pair::Stand;
 use cg_advice::text::{push_limits, push_lines};
 use cg_advice::ways::Ways;
 use cg_cgroup::memory::NoMemory;
@@ -39,14 +41,15 @@ pub fn everybody_advice<H: Hierarchy>(
     ensures { IfOk result (λ text. text.items ≡ everybody_advice (H.state tree.now) (everybody_of asked.now) subtrees.now) }
 {
     let found = all_entrances(alloc, tree, asked, subtrees)?;
+    let stands = stands_of(alloc, asked, found.as_slice())?;
     let mut text = Vec::new(alloc);
-    push_spots(alloc, &mut text, asked, found.as_slice())?;
+    push_stands(alloc, &mut text, stands.as_slice())?;
     push_all_limits(alloc, &mut text, tree, subtrees)?;
     Ok(text)
 }
 
 /// The entries that let somebody in, of one subtree after another.
-fn all_entrances<'a, H: Hierarchy>(
+pub(crate) fn all_entrances<'a, H: Hierarchy>(
     alloc: Global,
     tree: &H,
     asked: &Asked<'_>,
@@ -63,24 +66,51 @@ fn all_entrances<'a, H: Hierarchy>(
     Ok(found)
 }
 
-/// The lines of each entry, where it is met first, behind a text.
-fn push_spots(
+/// Each entry that lets somebody in, where it is met first, and by what.
+pub(crate) fn stands_of<'a>(
     alloc: Global,
-    text: &mut Vec<u8>,
     asked: &Asked<'_>,
-    found: &[Entrance<'_>],
-) -> Result<(), NoMemory>
-    ensures { OnOk result (text.new.items ≡ text.old.items
-        ++ flat_map (spot_lines (everybody_of asked.now)) (once same_spot (map entrance_spot found.now))) }
+    found: &[Entrance<'a>],
+) -> Result<Vec<Stand<'a>>, NoMemory>
+    ensures { IfOk result (λ stands. map stand_let stands.items
+        ≡ map (let_into (everybody_of asked.now)) (once same_spot (map entrance_spot found.now))) }
 {
+    let mut stands = Vec::new(alloc);
     let mut seen = BTreeSet::new(alloc);
     for each in found {
         let key = key_of(alloc, each)?;
         let is_new = seen.insert(key)?;
         if is_new {
-            let ways = ways_into(asked, &each.at.entry);
-            push_lines(alloc, text, each.subtree, &each.at, ways)?;
+            push_stand(&mut stands, asked, each)?;
         }
+    }
+    Ok(stands)
+}
+
+/// An entry that lets somebody in, and by what, behind others.
+fn push_stand<'a>(
+    stands: &mut Vec<Stand<'a>>,
+    asked: &Asked<'_>,
+    each: &Entrance<'a>,
+) -> Result<(), NoMemory>
+    ensures { OnOk result (map stand_let stands.new.items
+        ≡ map stand_let stands.old.items ++ (let_into (everybody_of asked.now) (entrance_spot each.now) ∷ [])) }
+{
+    let ways = ways_into(asked, &each.at.entry);
+    stands.push(Stand {
+        subtree: each.subtree,
+        at: each.at,
+        ways,
+    })?;
+    Ok(())
+}
+
+/// The lines of entries behind a text.
+fn push_stands(alloc: Global, text: &mut Vec<u8>, stands: &[Stand<'_>]) -> Result<(), NoMemory>
+    ensures { OnOk result (text.new.items ≡ text.old.items ++ flat_map (λ stand. let_lines (stand_let stand)) stands.now) }
+{
+    for stand in stands {
+        push_lines(alloc, text, stand.subtree, &stand.at, stand.ways)?;
     }
     Ok(())
 }
@@ -95,7 +125,7 @@ fn key_of(alloc: Global, each: &Entrance<'_>) -> Result<(Path, &'static str), No
 }
 
 /// By what an entry lets somebody in, and by which bits once root has it in place of an owner who is let in.
-fn ways_into(asked: &Asked<'_>, entry: &Entry) -> Ways
+pub(crate) fn ways_into(asked: &Asked<'_>, entry: &Entry) -> Ways
     ensures { result ≡ ways_into (everybody_of asked.now) entry.now }
 {
     let given = handed_back(asked, entry);

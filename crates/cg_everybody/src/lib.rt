@@ -7,5 +7,6 @@ mod entrance;
 pub mod explained;
 pub mod laws;
 pub mod lines;
+pub mod objects;
 pub mod premises;
 mod walk;

@@ -6,3 +6,4 @@ mod Untold
 mod Told
 mod Meeting
 mod Placing
+pub mod PlainObjects

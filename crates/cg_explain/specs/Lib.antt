@@ -3,3 +3,4 @@ pub mod Counted
 pub mod SecondRow
 pub mod ExplainLines
 pub mod PairExplained
+pub mod Objects

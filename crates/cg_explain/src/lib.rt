@@ -5,6 +5,7 @@
 pub mod counted;
 pub mod first;
 pub mod laws;
+pub mod objects;
 pub mod pair;
 pub mod second;
 pub mod text;

@@ -87,7 +87,7 @@ fn verdict_word(holds: bool) -> &'static str
     if holds { "holds" } else { "fails" }
 }
 
-fn staying_word(why: Option<Staying>) -> &'static str
+pub(crate) fn staying_word(why: Option<Staying>) -> &'static str
     ensures { result.now ≡ staying_word why }
 {
     match why {
@@ -97,7 +97,7 @@ fn staying_word(why: Option<Staying>) -> &'static str
     }
 }
 
-fn switch_word(how: Option<Switch>) -> &'static str
+pub(crate) fn switch_word(how: Option<Switch>) -> &'static str
     ensures { result.now ≡ switch_word how }
 {
     match how {
@@ -107,7 +107,7 @@ fn switch_word(how: Option<Switch>) -> &'static str
     }
 }
 
-fn taking_word(why: Option<Taking>) -> &'static str
+pub(crate) fn taking_word(why: Option<Taking>) -> &'static str
     ensures { result.now ≡ taking_word why }
 {
     match why {
@@ -117,7 +117,7 @@ fn taking_word(why: Option<Taking>) -> &'static str
     }
 }
 
-fn growing_word(why: Option<Growing>) -> &'static str
+pub(crate) fn growing_word(why: Option<Growing>) -> &'static str
     ensures { result.now ≡ growing_word why }
 {
     match why {
@@ -127,7 +127,7 @@ fn growing_word(why: Option<Growing>) -> &'static str
     }
 }
 
-fn files_word(spared: bool) -> &'static str
+pub(crate) fn files_word(spared: bool) -> &'static str
     ensures { result.now ≡ files_word spared }
 {
     if spared { "spared" } else { "reached" }

@@ -192,6 +192,10 @@ impl Hierarchy for Indexed {
         self.cgroups.paths(alloc)
     }
 
+    fn receivers(&self, alloc: Global, user: &User) -> Result<Vec<Path>, NoMemory> {
+        self.cgroups.receivers(alloc, user)
+    }
+
     fn pids(&self, alloc: Global) -> Result<Vec<Pid>, NoMemory> {
         self.processes.pids(alloc)
     }

@@ -67,7 +67,7 @@ fn refusal_text(alloc: Global, op: &Op, refusal: &Refusal) -> Result<String, All
 }
 
 /// How many first names of the operation's path a refusal names; 0 where it names no number of them.
-fn named_len(refusal: &Refusal) -> usize
+pub fn named_len(refusal: &Refusal) -> usize
     ensures { result ≡ named_len refusal.now }
 {
     match *refusal {
@@ -81,7 +81,7 @@ fn named_len(refusal: &Refusal) -> usize
 }
 
 /// How many names the operation's path has.
-fn depth(op: &Op) -> usize
+pub fn depth(op: &Op) -> usize
     ensures { result ≡ length (path_of op.now) }
 {
     match path_of(op) {
@@ -91,7 +91,7 @@ fn depth(op: &Op) -> usize
 }
 
 /// The text of so many first names of the operation's path.
-fn shown(op: &Op, len: usize) -> &str
+pub fn shown(op: &Op, len: usize) -> &str
     requires { len ≤ length (path_of op.now) }
     ensures { result.now ≡ path_text (take len (path_of op.now)) }
 {

@@ -1,5 +1,5 @@
 -- What holds of each element of a list that is made from another, and the first of those that pass.
-use Rattle.std.proofs.Common.{◌≡◌, Bool, true, false, cond, List, [], ◌∷◌, ◌++◌, map, filter, refl, ap, sym, ◌∙◌, subst, Option, Some, None}
+use Rattle.std.proofs.Common.{◌≡◌, Bool, true, false, cond, ◌&&◌, List, [], ◌∷◌, ◌++◌, map, filter, refl, ap, sym, ◌∙◌, subst, Option, Some, None}
 use Rattle.std.specs.List.{find, flat_map, AllByRecursion}
 use Rattle.cg_model.specs.Clauses.{present}
 
@@ -63,3 +63,11 @@ find-all P p (y ∷ ys) all x e =
 pub find-same : {A : Type 0} (p q : A → Bool) (xs : List A) → ((x : A) → p x ≡ q x) → find p xs ≡ find q xs
 find-same p q [] same = refl
 find-same p q (x ∷ xs) same = λ i. cond (same x i) (Some x) (find-same p q xs same i)
+
+pub find-filter : {A : Type 0} (p q : A → Bool) (xs : List A) → find p (filter q xs) ≡ find (λ x. q x && p x) xs
+find-filter p q [] = refl
+find-filter p q (x ∷ xs) =
+    elim (q x) as (λ b. find p (cond b (x ∷ filter q xs) (filter q xs)) ≡ cond (b && p x) (Some x) (find (λ x. q x && p x) xs)) [
+      | true ↦ ap (cond (p x) (Some x)) (find-filter p q xs)
+      | false ↦ find-filter p q xs
+    ]

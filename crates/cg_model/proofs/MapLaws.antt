@@ -1,11 +1,12 @@
 -- Laws of finite maps: what `get` gives where one value or each is changed, and what a test of the entries finds.
-use Rattle.std.proofs.Common.{◌≡◌, Bool, true, false, cond, ◌&&◌, ◌||◌, T, List, [], ◌∷◌, map, refl, sym, ap, ◌∙◌, subst, true≢false, Some, None, is_some, option_map, unwrap_or, Ordering, Less, Equal, Greater}
-use Rattle.std.specs.List.{list_any}
+use Rattle.std.proofs.Common.{◌≡◌, Bool, true, false, cond, ◌&&◌, ◌||◌, T, List, [], ◌∷◌, map, filter, refl, sym, ap, ◌∙◌, subst, true≢false, Option, Some, None, is_some, option_map, unwrap_or, Ordering, Less, Equal, Greater}
+use Rattle.std.specs.List.{list_any, AllByRecursion}
 use Rattle.std.specs.Ordering.{eq_by_cmp, is_eq, is_lt}
 use Rattle.std.specs.Cmp.{IsTotalOrder, Equal-is, eq_by_cmp_equiv, tied_itself}
 use Rattle.std.specs.FinMap as finite
 use Rattle.std.specs.FinMap.{FinMap, IsAntisymmetric, get, insert, entries}
 use Rattle.std.specs.FinMap.Entries.{find, put, by_order, is_sorted, below_all}
+use Rattle.cg_model.proofs.Lists.{all-each}
 
 pub first_of_both : (a b : Bool) → T (a && b) → T a
 first_of_both true b h = tt
@@ -79,6 +80,35 @@ module _ {K X : Type 0} (R : K → K → Ordering) where
             (d, ap (λ b. cond b (Some e.1) (find R d.0 es)) past ∙ later.1, later.2)
       ] refl one
 
+  -- each entry is found by its key
+  all_found : IsTotalOrder R → (es : List (K × X)) → T (is_sorted R es) → AllByRecursion (λ e. find R e.0 es ≡ Some e.1) es
+  all_found o [] sorted = tt
+  all_found o (e ∷ es) sorted = (
+    ap (λ r. cond (is_eq r) (Some e.1) (find R e.0 es)) (tied_itself o e.0),
+    all-each (λ d. find R d.0 es ≡ Some d.1) (λ d. find R d.0 (e ∷ es) ≡ Some d.1) behind es (all_found o es (second_of_both _ _ sorted)),
+  )
+    where
+      behind : (d : K × X) → find R d.0 es ≡ Some d.1 → find R d.0 (e ∷ es) ≡ Some d.1
+      behind d found =
+          elim (eq_by_cmp R d.0 e.0) as (λ b. eq_by_cmp R d.0 e.0 ≡ b → cond b (Some e.1) (find R d.0 es) ≡ Some d.1) [
+            | true ↦
+                λ tied.
+                absurd (true≢false (ap is_some (sym found ∙ find_below o d.0 e.0 es ((Equal-is _).0 tied) (first_of_both _ _ sorted))))
+            | false ↦ λ _. found
+          ] refl
+
+  -- what passes a test, by the keys
+  keys-passing : (p : K → X → Bool) (held : K → Option X) (es : List (K × X)) → AllByRecursion (λ e. held e.0 ≡ Some e.1) es
+      → map (λ e. e.0) (filter (λ e. p e.0 e.1) es) ≡ filter (λ k. elim (held k) [ None ↦ false | Some x ↦ p k x ]) (map (λ e. e.0) es)
+  keys-passing p held [] found = refl
+  keys-passing p held (e ∷ es) found =
+      let rest = filter (λ k. elim (held k) [ None ↦ false | Some x ↦ p k x ]) (map (λ e. e.0) es) in
+      elim (p e.0 e.1) as (λ b. map (λ e. e.0) (cond b (e ∷ filter (λ e. p e.0 e.1) es) (filter (λ e. p e.0 e.1) es)) ≡ cond b (e.0 ∷ rest) rest) [
+        | true ↦ ap (λ ks. e.0 ∷ ks) (keys-passing p held es found.1)
+        | false ↦ keys-passing p held es found.1
+      ]
+      ∙ ap (λ r. cond (elim r [ None ↦ false | Some x ↦ p e.0 x ]) (e.0 ∷ rest) rest) (sym found.0)
+
   found_any : IsAntisymmetric R → (p : K × X → Bool) (es : List (K × X)) (k : K) (x : X) → find R k es ≡ Some x → p (k, x) ≡ true
       → list_any p es ≡ true
   found_any same p [] k x is one = absurd (true≢false (sym (ap is_some is)))
@@ -135,6 +165,14 @@ module _ {K X : Type 0} {R : K → K → Ordering} where
   pub entry_any : IsAntisymmetric R → (p : K × X → Bool) (m : FinMap R X) (k : K) (x : X) → get m k ≡ Some x → p (k, x) ≡ true
       → list_any p (entries m) ≡ true
   entry_any same p m k x is one = found_any R same p (entries m) k x (sym (finite.get-entries m k) ∙ is) one
+
+  -- the keys of the entries that pass a test are those whose values pass
+  pub keys-filtered : IsTotalOrder R → (p : K → X → Bool) (m : FinMap R X)
+      → map (λ e. e.0) (filter (λ e. p e.0 e.1) (entries m)) ≡ filter (λ k. elim (get m k) [ None ↦ false | Some x ↦ p k x ]) (finite.keys m)
+  keys-filtered o p m =
+      keys-passing R p (get m) (entries m)
+      (all-each (λ e. find R e.0 (entries m) ≡ Some e.1) (λ e. get m e.0 ≡ Some e.1) (λ e is. finite.get-entries m e.0 ∙ is) (entries m)
+      (all_found R o (entries m) (finite.entries_sorted m)))
 
   -- the map with the value at a key changed, where the key is there
   abbrev pub change_value : FinMap R X → K → (X → X) → FinMap R X

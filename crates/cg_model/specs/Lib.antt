@@ -5,6 +5,7 @@ pub mod Once
 pub mod Changes
 pub mod Limits
 pub mod Bars
+pub mod Receiving
 pub mod Next
 pub mod Steps
 pub mod Edge

@@ -3,6 +3,7 @@ ghost use Rattle.std.specs.Prelude.{◌≡◌, ◌≤◌, true, false, length, t
 ghost use Rattle.cg_model.specs.States.{State, row_at, process_at, place_at, owner_at, is_used, has_child, has_live, child_enables, count_below, depth_below, paths_of, pids_of, file_at, entry_at, telling_of, with_row, without_row, with_value, with_mode, with_enabled, with_place, with_process, without_process};
 ghost use Rattle.cg_model.specs.WellFormed.{IsWellFormed, has_row, may_hold, MayEnable};
 ghost use Rattle.cg_model.specs.NearestFull.{NoneIsFull, IsNearestFull};
+ghost use Rattle.cg_model.specs.Receiving.{receivers};
 ghost use Rattle.cg_cgroup.specs.Paths.{is_root};
 ghost use Rattle.std.specs.FinMap as map;
 ghost use Rattle.cg_cgroup.specs.Files.{accepts, is_beyond};
@@ -128,6 +129,11 @@ pub trait Hierarchy {
     /// Every path of the tree, in order.
     fn paths(&self, alloc: Global) -> Result<Vec<Path>, NoMemory>
         ensures { IfOk result (λ paths. paths.items ≡ paths_of (state self.now)) };
+
+    /// The paths of those cgroups to which a process may come, once it may pass, in order: the user writes the `cgroup.procs`, and
+    /// processes may be there.
+    fn receivers(&self, alloc: Global, user: &User) -> Result<Vec<Path>, NoMemory>
+        ensures { IfOk result (λ paths. paths.items ≡ receivers (state self.now) user.now) };
 
     /// Every live PID, rising.
     fn pids(&self, alloc: Global) -> Result<Vec<Pid>, NoMemory>

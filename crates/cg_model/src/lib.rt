@@ -14,5 +14,6 @@ pub mod mend;
 pub mod operation;
 pub mod operations;
 pub mod outcome;
+pub mod receiving;
 pub mod told;
 pub mod verdict;

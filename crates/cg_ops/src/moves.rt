@@ -1,11 +1,8 @@
-//! What moves ask of a tree: where a user passes, and where processes may be.
-ghost use Rattle.std.specs.Prelude.{◌≡◌, ◌≤◌, ◌||◌, length, take};
-ghost use Rattle.cg_cgroup.specs.Paths.{is_root};
-ghost use Rattle.cg_cgroup.specs.Files.{enables_nothing};
+//! What moves ask of a tree: where a user passes.
+ghost use Rattle.std.specs.Prelude.{◌≡◌, ◌≤◌, length, take};
 ghost use Rattle.cg_model.specs.Bars.{passes};
 ghost use Rattle.cg_ops.specs.Moves.{passes_at};
 
-use cg_cgroup::cgroup::Cgroup;
 use cg_cgroup::path::Path;
 use cg_cgroup::user::User;
 use cg_model::hierarchy::Hierarchy;
@@ -27,12 +24,4 @@ pub fn passes<H: Hierarchy>(tree: &H, user: &User, from: &Path, to: &Path) -> bo
     ensures { result ≡ passes (H.state tree.now) user.now from.now to.now }
 {
     passes_at(tree, user, to, from.common_len(to))
-}
-
-/// Whether processes may be in a cgroup: it is the root, or enables nothing.
-#[tactic(auto, using(cg_model::proofs::Prefixes::root_of_length, cg_model::proofs::Prefixes::no_root_of_length))]
-pub fn may_hold(cgroup: &Cgroup, path: &Path) -> bool
-    ensures { result ≡ (is_root path.now || enables_nothing cgroup.now.enabled) }
-{
-    path.depth() == 0 || cgroup.enabled.is_empty()
 }

@@ -3,13 +3,14 @@ ghost use Rattle.std.specs.Prelude.{◌≡◌};
 ghost use Rattle.cg_model.specs.Clauses.{first};
 ghost use Rattle.cg_model.specs.Bars.{move_bars};
 
-use crate::moves::{may_hold, passes};
+use crate::moves::passes;
 use cg_cgroup::files::EntryName;
 use cg_cgroup::path::Path;
 use cg_cgroup::process::Pid;
 use cg_cgroup::user::User;
 use cg_model::hierarchy::Hierarchy;
 use cg_model::outcome::Refusal;
+use cg_model::receiving::may_hold;
 
 /// The first refusal that a move meets.
 pub fn refusal<H: Hierarchy>(tree: &H, user: &User, pid: Pid, to: &Path) -> Option<Refusal>

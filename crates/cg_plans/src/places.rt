@@ -6,7 +6,7 @@ use cg_cgroup::cgroup::Cgroup;
 use cg_cgroup::memory::NoMemory;
 use cg_cgroup::path::Path;
 use cg_model::hierarchy::Hierarchy;
-use cg_ops::moves::may_hold;
+use cg_model::receiving::may_hold;
 use std::alloc::Global;
 
 /// How a place comes to take a process.

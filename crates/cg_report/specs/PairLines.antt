@@ -26,6 +26,3 @@ user_line user subtree = codes "pair " ++ user_text user ++ codes " " ++ path_te
 -- The line that names a pair, and then its answer's.
 abbrev pub pair_text : Listed → List ℕ
 pair_text pair = user_line pair.user pair.subtree ++ answer_text pair.subtree pair.found
-
-abbrev pub pairs_text : List Listed → List ℕ
-pairs_text pairs = flat_map pair_text pairs

@@ -9,6 +9,7 @@ ghost use Rattle.cg_model.specs.WellFormed.{IsWellFormed};
 ghost use Rattle.cg_model.specs.NearestFull.{is_full};
 
 mod below;
+mod receiving;
 
 use crate::processes::Processes;
 use crate::tables::path_table::PathTable;
@@ -231,6 +232,10 @@ impl Hierarchy for Rows {
             paths.push(entry.0.try_clone(alloc)?)?;
         }
         Ok(paths)
+    }
+
+    fn receivers(&self, alloc: Global, user: &User) -> Result<Vec<Path>, NoMemory> {
+        receiving::receiving(alloc, self.rows.entries(), user)
     }
 
     fn pids(&self, alloc: Global) -> Result<Vec<Pid>, NoMemory> {

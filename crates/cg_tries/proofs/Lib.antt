@@ -2,6 +2,7 @@ pub mod Seen
 pub mod Single
 pub mod Controls
 pub mod Moves
+pub mod Receivers
 pub mod Probes
 pub mod Walks
 pub mod OtherSets

@@ -23,7 +23,8 @@ use Rattle.cg_model.specs.Tries.{across, move_tries}
 use Rattle.cg_model.specs.Escapes.{breaks}
 use Rattle.cg_tries.specs.Escapes.{IsUnbroken}
 use Rattle.cg_ops.specs.Moves.{passes_at}
-use Rattle.cg_tries.specs.Finding.{allowed, receives, can_leave_to, can_enter_at, goes_from, move_of, first_given, first_move}
+use Rattle.cg_model.specs.Receiving.{receives}
+use Rattle.cg_tries.specs.Finding.{allowed, can_leave_to, can_enter_at, goes_from, move_of, first_given, first_move}
 use Rattle.cg_tries.proofs.Single.{move_try, where_so}
 
 -- ---- whether a move is allowed

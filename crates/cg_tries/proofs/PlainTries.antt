@@ -27,7 +27,8 @@ use Rattle.cg_model.specs.Tries.{other_value, other_text, set_tries, told_contro
 use Rattle.cg_model.specs.Escapes.{breaks}
 use Rattle.cg_tries.specs.Escapes.{IsUnbroken}
 use Rattle.cg_ops.specs.Moves.{passes_at}
-use Rattle.cg_tries.specs.Finding.{allowed, if_allowed, set_of, first_listed_set, other_set_of, first_other_set, first_set, control_of, first_control, first_write, receives, can_leave_to, can_enter_at, goes_from, move_of, first_move, writes_both, first_probe_path, first_inside, first_probe, first_passage}
+use Rattle.cg_model.specs.Receiving.{receives}
+use Rattle.cg_tries.specs.Finding.{allowed, if_allowed, set_of, first_listed_set, other_set_of, first_other_set, first_set, control_of, first_control, first_write, can_leave_to, can_enter_at, goes_from, move_of, first_move, writes_both, first_probe_path, first_inside, first_probe, first_passage}
 use Rattle.cg_tries.proofs.Walks.{given-none}
 use Rattle.cg_tries.proofs.Seen.{is_empty, breaks-run}
 use Rattle.cg_tries.proofs.Single.{set_try, other_set_try, rmdir_try}

@@ -30,7 +30,8 @@ use Rattle.cg_model.specs.declared.operation.Op.TheVariants.{Move, Mkdir}
 use Rattle.cg_model.specs.Escapes.{breaks}
 use Rattle.cg_tries.specs.Escapes.{IsUnbroken}
 use Rattle.cg_ops.specs.Moves.{passes_at}
-use Rattle.cg_tries.specs.Finding.{allowed, receives}
+use Rattle.cg_model.specs.Receiving.{receives}
+use Rattle.cg_tries.specs.Finding.{allowed}
 use Rattle.cg_tries.proofs.Seen.{seen, IsAlike, unbroken-alike, breaks-alike_first}
 use Rattle.cg_tries.proofs.Single.{move_try}
 use Rattle.cg_tries.proofs.Moves.{common_inside, move_allowed}

@@ -19,6 +19,7 @@ use Rattle.cg_model.specs.States.{State, row_at, place_at, paths_of, pids_of, co
 use Rattle.cg_model.specs.WellFormed.{enabled_at}
 use Rattle.cg_model.specs.Clauses.{first}
 use Rattle.cg_model.specs.Bars.{bars, passes}
+use Rattle.cg_model.specs.Receiving.{receives}
 use Rattle.cg_model.specs.Limits.{is_under}
 use Rattle.cg_model.specs.declared.operation.Op.{Op}
 use Rattle.cg_model.specs.declared.operation.Op.TheVariants.{Move, Control, Mkdir, Rmdir, Set, SetOther}
@@ -85,9 +86,9 @@ first_write st user subtree = option_or (first_set st user subtree) (option_or (
 
 -- ---- moves
 
--- a process may come to a place, once it may pass
-abbrev pub receives : State → Identity → Names → Bool
-receives st user path = elim (row_at st path) [ None ↦ false | Some row ↦ writes user row.procs && (is_root path || enables_nothing row.enabled) ]
+-- a place is outside, and whoever is inside passes to it
+abbrev pub leads_out : State → Identity → Names → Names → Bool
+leads_out st user subtree path = not (inside subtree path) && passes st user subtree path
 
 -- where a process from inside may go, whichever it is
 abbrev pub can_leave_to : State → Identity → Names → Names → Bool

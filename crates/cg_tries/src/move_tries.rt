@@ -1,8 +1,10 @@
 //! Tries of one move: over the edge of a subtree.
 ghost use Rattle.std.specs.Prelude.{◌≡◌, ◌<◌, ℕ, [], ◌∷◌, true, false, find, length, take, option_copied, IfOk};
-ghost use Rattle.cg_model.specs.States.{paths_of, pids_of};
+ghost use Rattle.cg_cgroup.specs.Paths.{inside};
+ghost use Rattle.cg_model.specs.States.{pids_of};
+ghost use Rattle.cg_model.specs.Receiving.{receivers};
 ghost use Rattle.cg_ops.specs.Moves.{passes_at};
-ghost use Rattle.cg_tries.specs.Finding.{receives, can_leave_to, can_enter_at, goes_from, first_given, move_of, first_move};
+ghost use Rattle.cg_tries.specs.Finding.{leads_out, goes_from, first_given, move_of, first_move};
 
 use crate::asker::Asker;
 use cg_cgroup::memory::NoMemory;
@@ -11,7 +13,7 @@ use cg_cgroup::process::Pid;
 use cg_model::hierarchy::Hierarchy;
 use cg_model::operation::Op;
 use cg_model::operations::Operations;
-use cg_ops::moves::{may_hold, passes, passes_at};
+use cg_ops::moves::{passes, passes_at};
 use std::alloc::Global;
 
 /// Whether the user writes the `cgroup.procs` of a proper ancestor: no move goes over the edge where they write none.
@@ -31,51 +33,26 @@ pub fn passes_above<H: Hierarchy>(asker: &Asker<H>) -> bool
     false
 }
 
-/// Whether a process may come to a cgroup, once it may pass.
-#[tactic(auto, using(cg_model::proofs::Prefixes::take_whole))]
-fn receives<H: Hierarchy>(asker: &Asker<H>, path: &Path) -> bool
-    ensures { result ≡ receives (H.state asker.now.tree.now) asker.now.user.now path.now }
+/// Whether a cgroup is outside, and a process from inside passes to it.
+fn leads_out<H: Hierarchy>(asker: &Asker<H>, path: &Path) -> bool
+    ensures { result ≡ leads_out (H.state asker.now.tree.now) asker.now.user.now asker.now.subtree.now path.now }
 {
-    let len = path.depth();
-    let Some(cgroup) = asker.tree.get(path, len) else {
-        return false;
-    };
-    if !asker.user.may_write(&cgroup.procs) {
-        return false;
-    }
-    may_hold(cgroup, path)
+    !asker.subtree.is_prefix_of(path) && passes(asker.tree, asker.user, asker.subtree, path)
 }
 
-/// Whether a process from inside the subtree may go to a cgroup outside.
-fn can_leave_to<H: Hierarchy>(asker: &Asker<H>, path: &Path) -> bool
-    ensures { result ≡ can_leave_to (H.state asker.now.tree.now) asker.now.user.now asker.now.subtree.now path.now }
-{
-    !asker.subtree.is_prefix_of(path)
-        && receives(asker, path)
-        && passes(asker.tree, asker.user, asker.subtree, path)
-}
-
-/// Whether a process from outside the subtree may come to a cgroup inside, once it may pass.
-fn can_enter_at<H: Hierarchy>(asker: &Asker<H>, path: &Path) -> bool
-    ensures { result ≡ can_enter_at (H.state asker.now.tree.now) asker.now.user.now asker.now.subtree.now path.now }
-{
-    asker.subtree.is_prefix_of(path) && receives(asker, path)
-}
-
-/// The first cgroup outside to which a process from inside may go.
-fn first_to_leave_to<'a, H: Hierarchy>(asker: &Asker<H>, paths: &'a [Path]) -> Option<&'a Path>
+/// The first cgroup outside, of those to which processes may come, to which one from inside passes.
+fn first_to_leave_to<'a, H: Hierarchy>(asker: &Asker<H>, places: &'a [Path]) -> Option<&'a Path>
     ensures { option_copied result
-        ≡ find (can_leave_to (H.state asker.now.tree.now) asker.now.user.now asker.now.subtree.now) paths.entry.now }
+        ≡ find (leads_out (H.state asker.now.tree.now) asker.now.user.now asker.now.subtree.now) places.entry.now }
 {
-    paths.iter().find(|path| can_leave_to(asker, *path))
+    places.iter().find(|path| leads_out(asker, *path))
 }
 
-/// The first cgroup inside to which a process from outside may come, once it may pass.
-fn first_to_enter_at<'a, H: Hierarchy>(asker: &Asker<H>, paths: &'a [Path]) -> Option<&'a Path>
-    ensures { option_copied result
-        ≡ find (can_enter_at (H.state asker.now.tree.now) asker.now.user.now asker.now.subtree.now) paths.entry.now }
+/// The first cgroup inside, of those to which processes may come.
+fn first_to_enter_at<'a>(subtree: &Path, places: &'a [Path]) -> Option<&'a Path>
+    ensures { option_copied result ≡ find (inside subtree.now) places.entry.now }
 {
-    paths.iter().find(|path| can_enter_at(asker, *path))
+    places.iter().find(|path| subtree.is_prefix_of(*path))
 }
 
 /// Where a process at a place goes over the edge, if these are the first cgroups outside and inside for it.
@@ -130,14 +107,14 @@ fn first_moved<H: Hierarchy>(
 /// The first move over the edge that is allowed.
 pub fn first_move<H: Hierarchy>(
     asker: &Asker<H>,
-    paths: &[Path],
+    places: &[Path],
     pids: &[Pid],
 ) -> Result<Option<Operations>, NoMemory>
-    requires paths { paths.now ≡ paths_of (H.state asker.now.tree.now) }
+    requires places { places.now ≡ receivers (H.state asker.now.tree.now) asker.now.user.now }
     requires pids { pids.now ≡ pids_of (H.state asker.now.tree.now) }
     ensures { IfOk result (λ found. found ≡ first_move (H.state asker.now.tree.now) asker.now.user.now asker.now.subtree.now) }
 {
-    let out = first_to_leave_to(asker, paths);
-    let into = first_to_enter_at(asker, paths);
+    let out = first_to_leave_to(asker, places);
+    let into = first_to_enter_at(asker.subtree, places);
     first_moved(asker, out, into, pids)
 }

@@ -21,12 +21,12 @@ use std::alloc::Global;
 fn first_passage<H: Hierarchy>(asker: &Asker<H>) -> Result<Option<Operations>, NoMemory>
     ensures { IfOk result (λ found. found ≡ first_passage (H.state asker.now.tree.now) asker.now.user.now asker.now.subtree.now) }
 {
-    let paths = asker.tree.paths(asker.alloc)?;
+    let places = asker.tree.receivers(asker.alloc, asker.user)?;
     let pids = asker.tree.pids(asker.alloc)?;
-    if let Some(found) = first_move(asker, &paths, &pids)? {
+    if let Some(found) = first_move(asker, &places, &pids)? {
         return Ok(Some(found));
     }
-    first_probe(asker, paths.len() + 1, &pids)
+    first_probe(asker, &pids)
 }
 
 /// The first of the plain tries that breaks a subtree of which nothing is broken at the start. None is carried out: each

@@ -124,15 +124,24 @@ fn free_path<H: Hierarchy>(
     Ok(None)
 }
 
+/// The same, of one number more than there are cgroups.
+fn free_path_of_all<H: Hierarchy>(asker: &Asker<H>, len: usize) -> Result<Option<Path>, NoMemory>
+    requires within { len ≤ length asker.now.subtree.now }
+    requires path { IsPath asker.now.subtree.now }
+    ensures { IfOk result (λ found. found ≡ free_path (H.state asker.now.tree.now) (take len asker.now.subtree.now)) }
+{
+    let count = asker.tree.paths(asker.alloc)?.len() + 1;
+    free_path(asker, len, count)
+}
+
 /// The path of the first probe that breaks, where a process is inside: at the nearest ancestor first.
-fn first_probe_path<H: Hierarchy>(asker: &Asker<H>, count: usize) -> Result<Option<Path>, NoMemory>
-    requires count { count ≡ length (paths_of (H.state asker.now.tree.now)) + 1 }
+fn first_probe_path<H: Hierarchy>(asker: &Asker<H>) -> Result<Option<Path>, NoMemory>
     ensures { IfOk result (λ found. found
         ≡ first_probe_path (H.state asker.now.tree.now) asker.now.user.now asker.now.subtree.now (length asker.now.subtree.now)) }
 {
     for len in (0..open_levels(asker)).rev() {
         if writes_both(asker, len) {
-            if let Some(path) = free_path(asker, len, count)? {
+            if let Some(path) = free_path_of_all(asker, len)? {
                 return Ok(Some(path));
             }
         }
@@ -140,21 +149,18 @@ fn first_probe_path<H: Hierarchy>(asker: &Asker<H>, count: usize) -> Result<Opti
     Ok(None)
 }
 
-/// The first probe that breaks: a new cgroup above the subtree, and the first process from inside moved there. One number
-/// more is asked than there are cgroups.
+/// The first probe that breaks: a new cgroup above the subtree, and the first process from inside moved there.
 pub fn first_probe<H: Hierarchy>(
     asker: &Asker<H>,
-    count: usize,
     pids: &[Pid],
 ) -> Result<Option<Operations>, NoMemory>
-    requires count { count ≡ length (paths_of (H.state asker.now.tree.now)) + 1 }
     requires pids { pids.now ≡ pids_of (H.state asker.now.tree.now) }
     ensures { IfOk result (λ found. found ≡ first_probe (H.state asker.now.tree.now) asker.now.user.now asker.now.subtree.now) }
 {
     let Some(pid) = first_inside(asker, pids) else {
         return Ok(None);
     };
-    let Some(to) = first_probe_path(asker, count)? else {
+    let Some(to) = first_probe_path(asker)? else {
         return Ok(None);
     };
     let path = to.try_clone(asker.alloc)?;

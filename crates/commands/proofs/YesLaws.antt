@@ -12,10 +12,14 @@ use Rattle.cg_cgroup.specs.Identity.{Identity}
 use Rattle.cg_cgroup.specs.Paths.{Names, same_path}
 use Rattle.cg_model.specs.States.{State}
 use Rattle.cg_cli.specs.Arguments.{user_read, path_read}
-use Rattle.cg_cli.specs.AllPairs.{read_then, pairs_found, all_report, ReportsPairs}
+use Rattle.cg_cli.specs.AllPairs.{read_then, pairs_found, all_report, ReportsPairsBy}
+use Rattle.cg_cli.specs.AsJson.{check_json_report, audit_json_report}
+use Rattle.cg_cli.specs.Formats.{listing_in}
+use Rattle.cg_cli.proofs.AsJson.{check_ending, audit_ending}
+use Rattle.cg_cli.proofs.FormatEndings.{everybody_ending}
 use Rattle.cg_cli.specs.Containment.{subtree_report, check_report}
 use Rattle.cg_cli.specs.Audits.{users_read, paths_read, pairs_report, audit_report}
-use Rattle.cg_cli.specs.Everybody.{everybody_said, everybody_report}
+use Rattle.cg_cli.specs.Everybody.{everybody_said_in, everybody_report_in, everybody_report}
 use Rattle.cg_cli.specs.declared.everybody.Wanted.{Wanted}
 use Rattle.cg_cli.specs.Once.{same_user}
 use Rattle.cg_model.specs.Once.{once}
@@ -28,6 +32,8 @@ use Rattle.arguments.specs.declared.everyone.Wanted.{Wanted as Asked}
 use Rattle.arguments.specs.declared.everyone.Wanted.TheVariants as asked_for
 use Rattle.arguments.specs.Given.{ids_of, words_at, users_given, everyone_given, everyone_of, IsAudit, IsEverybody, IsOfSubtrees, tree_file, other_file, Holds, wanted_command, command_of}
 use Rattle.arguments.specs.UserWords.{all_read, user_at}
+use Rattle.arguments.specs.declared.format.Format.{Format as Written}
+use Rattle.arguments.specs.declared.format.Format.TheVariants as written_as
 use Rattle.arguments.specs.declared.request.Check.{Check}
 use Rattle.arguments.specs.declared.request.Audit.{Audit}
 use Rattle.arguments.specs.declared.request.Everybody.{Everybody}
@@ -42,7 +48,7 @@ use Rattle.machine_answers.specs.Contained.{of_ids, IsContainedIn, AreContainedI
 use Rattle.machine_answers.proofs.MachineLaws.{contained_in}
 use Rattle.machine_answers.proofs.AuditedLaws.{audited_in, all_audited_in}
 use Rattle.machine_answers.proofs.EverybodyLaws.{held_against_everybody}
-use Rattle.commands.specs.Requests.{Files, source, name_of, IsTree, IsOtherText, IsUnread, check_said, whom, wanted_of, everybody_asked, EverybodyOn, OnLines, GuardsSay, FurtherSay, CarriesOut}
+use Rattle.commands.specs.Requests.{Files, source, name_of, IsTree, IsOtherText, IsUnread, format_of, in_format, check_said, audit_said, whom, wanted_of, everybody_asked, EverybodyOn, OnLines, GuardsSay, FurtherSay, CarriesOut}
 use Rattle.commands.specs.Runs.{IsFlushed, LeadsTo, RunsTo, exit_status}
 use Rattle.commands.specs.SubtreeLines.{subtrees_read, AreLinesOf}
 use Rattle.commands.specs.Yes.{AsksCheck, AsksAudit, AsksEverybody, AsksEverybodyOfLines, WasRead, CheckMeans, AuditMeans, EverybodyMeans}
@@ -99,6 +105,23 @@ unread_pairs (Ok a) (Ok b) fault report found is = cc
 unread_pairs (Ok a) (Err other) fault report found is = cc
 unread_pairs (Err other) two fault report found is = cc
 
+-- however it is written
+pub ends_alike : (format : Written) (lines json : Report) → json.ending ≡ lines.ending → (in_format format lines json).ending ≡ lines.ending
+ends_alike written_as.Lines lines json same = refl
+ends_alike written_as.Json lines json same = same
+
+check_zero : (format : Written) (tree : Reading) (uid : ℕ) (gids word : List ℕ)
+    → (in_format format (check_report tree uid gids word) (check_json_report tree uid gids word)).ending ≡ Ok 0
+    → (check_report tree uid gids word).ending ≡ Ok 0
+check_zero format tree uid gids word is =
+    sym (ends_alike format (check_report tree uid gids word) (check_json_report tree uid gids word) (check_ending tree uid gids word)) ∙ is
+
+audit_zero : (format : Written) (tree : Reading) (users : List (ℕ × List ℕ)) (subtrees : List (List ℕ))
+    → (audit_said format tree users subtrees).ending ≡ Ok 0 → (audit_report tree users subtrees).ending ≡ Ok 0
+audit_zero format tree users subtrees is =
+    sym (ends_alike format (audit_report tree users subtrees) (audit_json_report tree users subtrees) (audit_ending tree users subtrees))
+    ∙ is
+
 check_refused : (fault : TreeFault) (uid : ℕ) (gids word : List ℕ) → (check_report (Err fault) uid gids word).ending ≡ Ok 0 → ⊥
 check_refused fault uid gids word is =
     refused (user_read uid gids) (path_read word) (lifted fault)
@@ -116,11 +139,17 @@ all_refused fault users subtrees pairs is =
     unread_pairs (users_read users) (paths_read subtrees) (lifted fault)
     (λ (users : List Identity) (paths : List Names) (st : State). pairs_found st (once same_user users) (once same_path paths)) pairs is
 
-everybody_refused : (wanted : Wanted) (asked : Whom) (fault : TreeFault) (subtrees : List (List ℕ))
-    → (everybody_report wanted asked (Err fault) subtrees).ending ≡ Ok 0 → ⊥
-everybody_refused wanted asked fault subtrees is =
+everybody_refused : (format : Written) (wanted : Wanted) (asked : Whom) (fault : TreeFault) (subtrees : List (List ℕ))
+    → (everybody_report_in (format_of format) wanted asked (Err fault) subtrees).ending ≡ Ok 0 → ⊥
+everybody_refused format wanted asked fault subtrees is =
     refused {A = Unit {0}} (Ok tt) (paths_read subtrees) (lifted fault)
-    (λ (none : Unit {0}) (paths : List Names) (st : State). everybody_said wanted asked st (once same_path paths)) is
+    (λ (none : Unit {0}) (paths : List Names) (st : State). everybody_said_in (format_of format) wanted asked st (once same_path paths)) is
+
+pub everybody_ended : (format : Written) (wanted : Wanted) (asked : Whom) (tree : Reading) (subtrees : List (List ℕ)) (status : ℕ)
+    → (everybody_report_in (format_of format) wanted asked tree subtrees).ending ≡ Ok status
+    → (everybody_report wanted asked tree subtrees).ending ≡ Ok status
+everybody_ended format wanted asked tree subtrees status is =
+    sym (everybody_ending (format_of format) wanted asked tree subtrees) ∙ is
 
 pub not_unread : {P : Type 0} (old new : Option (List ℕ)) (status : ℕ) → IsUnread old new (Ok status) → P
 not_unread old new status (inl never, keeps) = let none : ⊥ = cc in absurd none
@@ -137,18 +166,20 @@ module _ (files : Files) (given old new : Option (List ℕ)) where
       by_reading (Ok st) reading reports = (
         text,
         read_whole (source files (name_of check.tree) given) text is_tree reading.short,
-        contained_in text (Ok st) check.user.uid check.user.gids.items check.subtree.now reading reports.0,
+        contained_in text (Ok st) check.user.uid check.user.gids.items check.subtree.now reading
+            (check_zero check.format (Ok st) check.user.uid check.user.gids.items check.subtree.now reports.0),
       )
       by_reading (Err fault) reading reports =
-          absurd (check_refused fault check.user.uid check.user.gids.items check.subtree.now reports.0)
+          absurd (check_refused fault check.user.uid check.user.gids.items check.subtree.now
+          (check_zero check.format (Err fault) check.user.uid check.user.gids.items check.subtree.now reports.0))
   check_carried check (inr it) = not_unread old new 0 it
 
   audit_carried : (audit : Audit) → audit.settle ≡ false → CarriesOut (request.Audit audit) files given old new (Ok 0)
       → (text : List ℕ) × WasRead files (name_of audit.tree) given text
       × AreContainedIn text (map of_ids (map ids_of audit.users.items)) (map (λ subtree. subtree.now) audit.subtrees.items)
   audit_carried audit settle (inl (text, is_tree, (read, reading, says))) =
-      by_flag audit.all (subst (λ settle. MatchBool settle (FurtherSay audit.all users subtrees old new (Ok 0) read)
-      (GuardsSay audit.all users subtrees old new (Ok 0) read)) settle says)
+      by_flag audit.all (subst (λ settle. MatchBool settle (FurtherSay audit.format audit.all users subtrees old new (Ok 0) read)
+      (GuardsSay audit.format audit.all users subtrees old new (Ok 0) read)) settle says)
     where
       users : List (ℕ × List ℕ)
       users = map ids_of audit.users.items
@@ -156,17 +187,19 @@ module _ (files : Files) (given old new : Option (List ℕ)) where
       subtrees : List (List ℕ)
       subtrees = map (λ subtree. subtree.now) audit.subtrees.items
 
-      first_of : (read : Reading) → IsReading text read → Reports (audit_report read users subtrees) old new (Ok 0)
+      first_of : (read : Reading) → IsReading text read
+          → Reports (audit_said audit.format read users subtrees) old new (Ok 0)
           → (text : List ℕ) × WasRead files (name_of audit.tree) given text × AreContainedIn text (map of_ids users) subtrees
       first_of (Ok st) reading reports = (
         text,
         read_whole (source files (name_of audit.tree) given) text is_tree reading.short,
-        audited_in text (Ok st) users subtrees reading reports.0,
+        audited_in text (Ok st) users subtrees reading (audit_zero audit.format (Ok st) users subtrees reports.0),
       )
-      first_of (Err fault) reading reports = absurd (audit_refused fault users subtrees reports.0)
+      first_of (Err fault) reading reports =
+          absurd (audit_refused fault users subtrees (audit_zero audit.format (Err fault) users subtrees reports.0))
 
       all_of : (read : Reading) → IsReading text read → (found : Result (List Listed) CliFault) → all_report read users subtrees ≡ found
-          → ReportsPairs found old new (Ok 0)
+          → ReportsPairsBy (listing_in (format_of audit.format)) found old new (Ok 0)
           → (text : List ℕ) × WasRead files (name_of audit.tree) given text × AreContainedIn text (map of_ids users) subtrees
       all_of read reading (Err fault) is never = absurd never
       all_of (Ok st) reading (Ok pairs) is reports = (
@@ -176,7 +209,7 @@ module _ (files : Files) (given old new : Option (List ℕ)) where
       )
       all_of (Err fault) reading (Ok pairs) is reports = absurd (all_refused fault users subtrees pairs is)
 
-      by_flag : (all : Bool) → GuardsSay all users subtrees old new (Ok 0) read
+      by_flag : (all : Bool) → GuardsSay audit.format all users subtrees old new (Ok 0) read
           → (text : List ℕ) × WasRead files (name_of audit.tree) given text × AreContainedIn text (map of_ids users) subtrees
       by_flag false says = first_of read reading says
       by_flag true says = all_of read reading (all_report read users subtrees) refl says
@@ -195,10 +228,11 @@ module _ (files : Files) (given old new : Option (List ℕ)) where
       by_reading (Ok st) reading reports = (
         text,
         read_whole (source files (name_of asked.tree) given) text is_tree reading.short,
-        held_against_everybody text (Ok st) (wanted_of asked.wanted) (whom asked.everyone) subtrees reading reports.0,
+        held_against_everybody text (Ok st) (wanted_of asked.wanted) (whom asked.everyone) subtrees reading
+            (everybody_ended asked.format (wanted_of asked.wanted) (whom asked.everyone) (Ok st) subtrees 0 reports.0),
       )
       by_reading (Err fault) reading reports =
-          absurd (everybody_refused (wanted_of asked.wanted) (whom asked.everyone) fault subtrees reports.0)
+          absurd (everybody_refused asked.format (wanted_of asked.wanted) (whom asked.everyone) fault subtrees reports.0)
   everybody_carried asked (inr it) = not_unread old new 0 it
 
   -- what both texts say of a request of subtrees that lines name
@@ -213,7 +247,7 @@ module _ (files : Files) (given old new : Option (List ℕ)) where
       by_lines (subtrees_read named) refl read reading said
     where
       by_reading : (subtrees : List (List ℕ)) → subtrees_read named ≡ Ok subtrees → (read : Reading) → IsReading text read
-          → EverybodyOn (wanted_of asked.wanted) (whom asked.everyone) subtrees read old new (Ok 0) → AreHeldByLines asked
+          → EverybodyOn asked.format (wanted_of asked.wanted) (whom asked.everyone) subtrees read old new (Ok 0) → AreHeldByLines asked
       by_reading subtrees of (Ok st) reading reports =
           let lines = are_lines named subtrees of in (
             text,
@@ -222,13 +256,14 @@ module _ (files : Files) (given old new : Option (List ℕ)) where
             read_whole (source files (tree_file asked.sources) given) text is_tree reading.short,
             lines_whole (source files (other_file asked.sources) given) named are_named lines.1,
             lines.0,
-            held_against_everybody text (Ok st) (wanted_of asked.wanted) (whom asked.everyone) subtrees reading reports.0,
+            held_against_everybody text (Ok st) (wanted_of asked.wanted) (whom asked.everyone) subtrees reading
+                (everybody_ended asked.format (wanted_of asked.wanted) (whom asked.everyone) (Ok st) subtrees 0 reports.0),
           )
       by_reading subtrees of (Err fault) reading reports =
-          absurd (everybody_refused (wanted_of asked.wanted) (whom asked.everyone) fault subtrees reports.0)
+          absurd (everybody_refused asked.format (wanted_of asked.wanted) (whom asked.everyone) fault subtrees reports.0)
 
       by_lines : (lines : Result (List (List ℕ)) CliFault) → subtrees_read named ≡ lines → (read : Reading) → IsReading text read
-          → OnLines (EverybodyOn (wanted_of asked.wanted) (whom asked.everyone)) lines read old new (Ok 0) → AreHeldByLines asked
+          → OnLines (EverybodyOn asked.format (wanted_of asked.wanted) (whom asked.everyone)) lines read old new (Ok 0) → AreHeldByLines asked
       by_lines (Ok subtrees) of read reading said = by_reading subtrees of read reading said
       by_lines (Err fault) of read reading said = let never : ⊥ = let same = said.0 in cc in absurd never
   lines_carried asked (inl (text, named, is_tree, are_named, (inr it))) = not_unread old new 0 it

@@ -11,31 +11,41 @@ use Rattle.arguments.specs.declared.request.Everybody.{Everybody}
 use Rattle.arguments.specs.declared.request.Explain.{Explain}
 use Rattle.arguments.specs.declared.request.Advise.{Advise}
 use Rattle.arguments.specs.declared.request.Replay.{Replay}
+use Rattle.arguments.specs.declared.format.Format.{Format as Written}
+use Rattle.arguments.specs.declared.format.Format.TheVariants as written_as
 use Rattle.arguments.specs.declared.request.Request.{Request}
 use Rattle.arguments.specs.declared.request.Request.TheVariants as request
+use Rattle.cg_cgroup.specs.Identity.{Identity}
+use Rattle.cg_cgroup.specs.Paths.{Names}
+use Rattle.cg_model.specs.States.{State}
 use Rattle.cg_format.specs.Readings.{Reading, OnText, vocabulary_in}
 use Rattle.cg_cli.specs.May.{may_report}
 use Rattle.cg_cli.specs.Containment.{check_report}
 use Rattle.cg_cli.specs.Settled.{IsSettledFrom}
 use Rattle.cg_cli.specs.Settling.{AskedReports, FurtherSays}
 use Rattle.cg_cli.specs.Audits.{audit_report}
-use Rattle.cg_cli.specs.AllPairs.{all_report, ReportsPairs}
+use Rattle.cg_cli.specs.AllPairs.{all_report, ReportsPairsBy}
+use Rattle.cg_cli.specs.AsJson.{may_json_report, check_json_report, FurtherSaysAsJson, audit_json_report, advise_json_report, advise_settled_json_report, advise_pairs_json_report}
 use Rattle.cg_cli.specs.Asking.{CallEnding}
 use Rattle.cg_cli.specs.EachPair.{audit_pairs_report, explain_pairs_asked}
-use Rattle.cg_cli.specs.Everybody.{everybody_report}
+use Rattle.cg_cli.specs.Everybody.{everybody_report_in}
 use Rattle.cg_cli.specs.declared.everybody.Wanted.{Wanted}
 use Rattle.cg_cli.specs.declared.everybody.Wanted.TheVariants.{Audit as AuditWanted, Advise as AdviseWanted, Explain as ExplainWanted}
 use Rattle.arguments.specs.declared.everyone.Wanted.{Wanted as Asked}
 use Rattle.arguments.specs.declared.everyone.Wanted.TheVariants as asked_for
 use Rattle.machine_everybody.specs.Everybody.{Everybody as Whom}
 use Rattle.arguments.specs.declared.everyone.Everyone.{Everyone}
-use Rattle.cg_cli.specs.Explaining.{explain_asked, ReportsTold}
+use Rattle.cg_cli.specs.Explaining.{explain_asked, ReportsToldBy}
+use Rattle.cg_cli.specs.Formats.{told_in, listing_in, first_in}
+use Rattle.cg_cli.specs.declared.format.Format.{Format}
+use Rattle.cg_cli.specs.declared.format.Format.TheVariants.{Lines, Json}
 use Rattle.cg_cli.specs.Advising.{advise_report, advise_pairs_report}
 use Rattle.cg_cli.specs.SettledAdvice.{advise_settled_report}
-use Rattle.cg_cli.specs.FurtherPairs.{ReportsFirst}
+use Rattle.cg_cli.specs.FurtherPairs.{ReportsFirstBy}
 use Rattle.cg_cli.specs.SettledPairs.{ReportsSettled}
 use Rattle.cg_cli.specs.Upgrades.{Upgrades}
-use Rattle.cg_cli.specs.Replays.{closed, lines_report}
+use Rattle.cg_cli.specs.Replays.{closed_in, operations_report}
+use Rattle.cg_cli.specs.ReplayFormats.{in_format as protocol_in}
 use Rattle.cg_cli.specs.Replaying.{Reporting, ReplaysFrom}
 use Rattle.cg_cli.specs.Reports.{Report, Reports}
 use Rattle.cg_faults.specs.declared.fault.CliFault.{CliFault}
@@ -73,11 +83,25 @@ IsOtherText known text = IfSome known (λ bytes. text ≡ take most_lines bytes)
 
 -- ---- the report of a request's own words on what the text of a tree is read as
 
+-- how it is to be written
+abbrev pub format_of : Written → Format
+format_of written_as.Lines = Lines
+format_of written_as.Json = Json
+
+-- the report as lines, or that as JSON
+abbrev pub in_format : Written → Report → Report → Report
+in_format written_as.Lines lines json = lines
+in_format written_as.Json lines json = json
+
 abbrev pub may_said : May → Reading → Report
-may_said may tree = may_report tree may.user.uid may.user.gids.items may.pid may.to.now
+may_said may tree =
+    in_format may.format (may_report tree may.user.uid may.user.gids.items may.pid may.to.now)
+    (may_json_report tree may.user.uid may.user.gids.items may.pid may.to.now)
 
 abbrev pub check_said : Check → Reading → Report
-check_said check tree = check_report tree check.user.uid check.user.gids.items check.subtree.now
+check_said check tree =
+    in_format check.format (check_report tree check.user.uid check.user.gids.items check.subtree.now)
+    (check_json_report tree check.user.uid check.user.gids.items check.subtree.now)
 
 -- whom `--everybody` is about
 abbrev pub whom : Everyone → Whom
@@ -91,34 +115,52 @@ wanted_of asked_for.Explain = ExplainWanted
 
 abbrev pub everybody_asked : Everybody → Reading → Report
 everybody_asked asked tree =
-    everybody_report (wanted_of asked.wanted) (whom asked.everyone) tree (map (λ subtree. subtree.now) asked.subtrees.items)
+    everybody_report_in (format_of asked.format) (wanted_of asked.wanted) (whom asked.everyone) tree
+    (map (λ subtree. subtree.now) asked.subtrees.items)
 
 -- what check says, or where that is unsettled what the second row of guards and the planner know
+abbrev pub SettlesIn : Written → State → Identity → Names → Report → Type 0
+SettlesIn written_as.Lines = FurtherSays IsSettledFrom
+SettlesIn written_as.Json = FurtherSaysAsJson IsSettledFrom
+
 abbrev pub SettlesAs : Check → Option (List ℕ) → Option (List ℕ) → Result ℕ CliFault → Reading → Type 0
 SettlesAs check old new result tree =
-    AskedReports (FurtherSays IsSettledFrom) tree check.user.uid check.user.gids.items check.subtree.now old new result
+    AskedReports (SettlesIn check.format) tree check.user.uid check.user.gids.items check.subtree.now old new result
+
+abbrev pub audit_said : Written → Reading → List (ℕ × List ℕ) → List (List ℕ) → Report
+audit_said format tree users subtrees = in_format format (audit_report tree users subtrees) (audit_json_report tree users subtrees)
+
+abbrev pub advise_said : Written → Reading → List (ℕ × List ℕ) → List (List ℕ) → Report
+advise_said format tree users subtrees = in_format format (advise_report tree users subtrees) (advise_json_report tree users subtrees)
+
+abbrev pub advise_settled_said : Written → Reading → List (ℕ × List ℕ) → List (List ℕ) → Report
+advise_settled_said format tree users subtrees =
+    in_format format (advise_settled_report tree users subtrees) (advise_settled_json_report tree users subtrees)
+
+abbrev pub advise_pairs_said : Written → Reading → List GivenPair → Report
+advise_pairs_said format tree pairs = in_format format (advise_pairs_report tree pairs) (advise_pairs_json_report tree pairs)
 
 -- what guards tell to change, or what is to be changed where the second row doesn't hold
 abbrev pub AdviseSays : Advise → Option (List ℕ) → Option (List ℕ) → Result ℕ CliFault → Reading → Type 0
 AdviseSays advise old new result tree =
     let users = map ids_of advise.users.items in
     let subtrees = map (λ subtree. subtree.now) advise.subtrees.items in
-    MatchBool advise.settle (Reports (advise_settled_report tree users subtrees) old new result)
-    (Reports (advise_report tree users subtrees) old new result)
+    MatchBool advise.settle (Reports (advise_settled_said advise.format tree users subtrees) old new result)
+    (Reports (advise_said advise.format tree users subtrees) old new result)
 
 -- ---- what is answered of what the lines of a text name, on what the text of a tree is read as
 
-abbrev pub AdvisesOn : List GivenPair → Reading → CallEnding
-AdvisesOn pairs tree = Reports (advise_pairs_report tree pairs)
+abbrev pub AdvisesOn : Written → List GivenPair → Reading → CallEnding
+AdvisesOn format pairs tree = Reports (advise_pairs_said format tree pairs)
 
-abbrev pub AuditsOn : List GivenPair → Reading → CallEnding
-AuditsOn pairs tree = ReportsPairs (audit_pairs_report tree pairs)
+abbrev pub AuditsOn : Written → List GivenPair → Reading → CallEnding
+AuditsOn format pairs tree = ReportsPairsBy (listing_in (format_of format)) (audit_pairs_report tree pairs)
 
-abbrev pub ExplainsOn : List GivenPair → Reading → CallEnding
-ExplainsOn pairs tree = ReportsTold (explain_pairs_asked tree pairs)
+abbrev pub ExplainsOn : Written → List GivenPair → Reading → CallEnding
+ExplainsOn format pairs tree = ReportsToldBy (told_in (format_of format)) (explain_pairs_asked tree pairs)
 
-abbrev pub EverybodyOn : Wanted → Whom → List (List ℕ) → Reading → CallEnding
-EverybodyOn wanted asked subtrees tree = Reports (everybody_report wanted asked tree subtrees)
+abbrev pub EverybodyOn : Written → Wanted → Whom → List (List ℕ) → Reading → CallEnding
+EverybodyOn format wanted asked subtrees tree = Reports (everybody_report_in (format_of format) wanted asked tree subtrees)
 
 -- the first fault of the lines of a text, by when nothing is written, or what is answered of what they name
 abbrev pub OnLines : {A : Type 0} → (List A → Reading → CallEnding) → Result (List A) CliFault → Reading → CallEnding
@@ -126,29 +168,41 @@ OnLines Says (Ok named) tree old new result = Says named tree old new result
 OnLines Says (Err fault) tree old new result = (result ≡ Err fault) × Keeps old new
 
 -- each pair that isn't contained, or the first alone
-abbrev pub GuardsSay : Bool → List (ℕ × List ℕ) → List (List ℕ) → Option (List ℕ) → Option (List ℕ) → Result ℕ CliFault → Reading → Type 0
-GuardsSay all users subtrees old new result tree =
-    MatchBool all (ReportsPairs (all_report tree users subtrees) old new result) (Reports (audit_report tree users subtrees) old new result)
+abbrev pub GuardsSay : Written → Bool → List (ℕ × List ℕ) → List (List ℕ) → Option (List ℕ) → Option (List ℕ)
+    → Result ℕ CliFault → Reading → Type 0
+GuardsSay format all users subtrees old new result tree =
+    MatchBool all (ReportsPairsBy (listing_in (format_of format)) (all_report tree users subtrees) old new result)
+    (Reports (audit_said format tree users subtrees) old new result)
 
 -- the same of pairs that the second row of guards and the planner leave
-abbrev pub FurtherSay : Bool → List (ℕ × List ℕ) → List (List ℕ) → Option (List ℕ) → Option (List ℕ) → Result ℕ CliFault → Reading → Type 0
-FurtherSay all users subtrees old new result tree =
-    MatchBool all (ReportsSettled ReportsPairs tree users subtrees old new result) (ReportsSettled ReportsFirst tree users subtrees old new result)
+abbrev pub FurtherSay : Written → Bool → List (ℕ × List ℕ) → List (List ℕ) → Option (List ℕ) → Option (List ℕ)
+    → Result ℕ CliFault → Reading → Type 0
+FurtherSay format all users subtrees old new result tree =
+    MatchBool all (ReportsSettled (ReportsPairsBy (listing_in (format_of format))) tree users subtrees old new result)
+    (ReportsSettled (ReportsFirstBy (first_in (format_of format))) tree users subtrees old new result)
 
 -- what guards tell of the pairs, or what is told where more is known
 abbrev pub AuditSays : Audit → Option (List ℕ) → Option (List ℕ) → Result ℕ CliFault → Reading → Type 0
 AuditSays audit old new result tree =
     let users = map ids_of audit.users.items in
     let subtrees = map (λ subtree. subtree.now) audit.subtrees.items in
-    MatchBool audit.settle (FurtherSay audit.all users subtrees old new result tree) (GuardsSay audit.all users subtrees old new result tree)
+    MatchBool audit.settle (FurtherSay audit.format audit.all users subtrees old new result tree)
+    (GuardsSay audit.format audit.all users subtrees old new result tree)
 
 -- every user with every subtree
 abbrev pub ExplainSays : Explain → Option (List ℕ) → Option (List ℕ) → Result ℕ CliFault → Reading → Type 0
 ExplainSays explain old new result tree =
-    ReportsTold (explain_asked tree (map ids_of explain.users.items) (map (λ subtree. subtree.now) explain.subtrees.items)) old new result
+    ReportsToldBy (told_in (format_of explain.format))
+    (explain_asked tree (map ids_of explain.users.items) (map (λ subtree. subtree.now) explain.subtrees.items)) old new result
 
 abbrev pub replay_said : Replay → Vocabulary → Reading → Reporting
-replay_said replay vocabulary tree = lines_report vocabulary tree replay.user.uid replay.user.gids.items (name_of replay.subtree)
+replay_said replay vocabulary tree =
+    operations_report (protocol_in (format_of replay.format) vocabulary) tree replay.user.uid replay.user.gids.items
+    (name_of replay.subtree)
+
+-- with what is said behind all lines
+abbrev pub replay_written : Replay → Vocabulary → Reading → List ℕ → Report
+replay_written replay vocabulary tree ops = closed_in (format_of replay.format) (replay_said replay vocabulary tree ops)
 
 -- ---- what a command answers, and has written by then
 
@@ -188,12 +242,14 @@ abbrev pub OnPairsText : (List GivenPair → Reading → CallEnding) → Option 
 OnPairsText Says known pairs = OnBothTexts pairs_read Says known pairs
 
 -- The report of operations over what a reader had to give, of which some may be left.
-abbrev pub ReplaysOver : Option (List ℕ) → Reporting → Option (List ℕ) → Option (List ℕ) → Result ℕ CliFault → Type 0
-ReplaysOver before said old new result = ((left : Option (List ℕ)) × ReplaysFrom closed said before left old new result) ⊎ IsUnread old new result
+abbrev pub ReplaysOver : Written → Option (List ℕ) → Reporting → Option (List ℕ) → Option (List ℕ) → Result ℕ CliFault → Type 0
+ReplaysOver format before said old new result =
+    ((left : Option (List ℕ)) × ReplaysFrom (closed_in (format_of format)) said before left old new result) ⊎ IsUnread old new result
 
 -- The report of operations on the text of a tree.
-abbrev pub ReplaysOnTree : Option (List ℕ) → Option (List ℕ) → (Vocabulary → Reading → Reporting) → Option (List ℕ) → Option (List ℕ) → Result ℕ CliFault → Type 0
-ReplaysOnTree known ops said old new result = OnTreeText known (λ vocabulary tree. ReplaysOver ops (said vocabulary tree) old new result) old new result
+abbrev pub ReplaysOnTree : Replay → Option (List ℕ) → Option (List ℕ) → Option (List ℕ) → Option (List ℕ) → Result ℕ CliFault → Type 0
+ReplaysOnTree replay known ops old new result =
+    OnTreeText known (λ vocabulary tree. ReplaysOver replay.format ops (replay_said replay vocabulary tree) old new result) old new result
 
 -- A request, with the files that there are and what standard input gives. Help has some text.
 abbrev pub CarriesOut : Request → Files → Option (List ℕ) → Option (List ℕ) → Option (List ℕ) → Result ℕ CliFault → Type 0
@@ -209,20 +265,23 @@ CarriesOut (request.Audit audit) files given old new result =
 CarriesOut (request.Everybody asked) files given old new result =
     ReportsOnTree (source files (name_of asked.tree) given) (everybody_asked asked) old new result
 CarriesOut (request.Subtrees asked) files given old new result =
-    OnBothTexts subtrees_read (EverybodyOn (wanted_of asked.wanted) (whom asked.everyone)) (source files (tree_file asked.sources) given)
+    OnBothTexts subtrees_read (EverybodyOn asked.format (wanted_of asked.wanted) (whom asked.everyone))
+    (source files (tree_file asked.sources) given)
     (source files (other_file asked.sources) given) old new result
 CarriesOut (request.Explain explain) files given old new result =
     OnTree (source files (name_of explain.tree) given) (ExplainSays explain old new result) old new result
 CarriesOut (request.Advise advise) files given old new result =
     OnTree (source files (name_of advise.tree) given) (AdviseSays advise old new result) old new result
 CarriesOut (request.AdvisePairs asked) files given old new result =
-    OnPairsText AdvisesOn (source files (tree_file asked.sources) given) (source files (other_file asked.sources) given) old new result
+    OnPairsText (AdvisesOn asked.format) (source files (tree_file asked.sources) given)
+    (source files (other_file asked.sources) given) old new result
 CarriesOut (request.AuditPairs asked) files given old new result =
-    OnPairsText AuditsOn (source files (tree_file asked.sources) given) (source files (other_file asked.sources) given) old new result
+    OnPairsText (AuditsOn asked.format) (source files (tree_file asked.sources) given)
+    (source files (other_file asked.sources) given) old new result
 CarriesOut (request.ExplainPairs asked) files given old new result =
-    OnPairsText ExplainsOn (source files (tree_file asked.sources) given) (source files (other_file asked.sources) given) old new result
+    OnPairsText (ExplainsOn asked.format) (source files (tree_file asked.sources) given)
+    (source files (other_file asked.sources) given) old new result
 CarriesOut (request.Upgrade upgrade) files given old new result =
     OnTreeText (source files (name_of upgrade.tree) given) (λ vocabulary. Upgrades vocabulary old new result) old new result
 CarriesOut (request.Replay replay) files given old new result =
-    ReplaysOnTree (source files (tree_file replay.sources) given) (source files (other_file replay.sources) given) (replay_said replay)
-    old new result
+    ReplaysOnTree replay (source files (tree_file replay.sources) given) (source files (other_file replay.sources) given) old new result

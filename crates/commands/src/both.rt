@@ -8,9 +8,9 @@ ghost use Rattle.commands.specs.Requests.{source, replay_said, ReplaysOver, Repl
 
 use crate::carried::Noted;
 use crate::texts::{file_text, opened, tree_text};
-use crate::users::ids;
+use crate::users::{format_of, ids};
 use arguments::request::{Replay, Sources};
-use cg_cli::replay::replay_from;
+use cg_cli::replay::replay_from_in;
 use cg_faults::fault::CliFault;
 use cg_help::beside::Beside;
 use cg_help::modes::spelled_mode;
@@ -36,8 +36,8 @@ pub(crate) fn replay<F: Files, I: Read + Drop, W: Write>(
     noted: &mut Noted,
     out: &mut W,
 ) -> Result<u8, CliFault>
-    ensures answer { ReplaysOnTree (source (F.given files.now) (tree_file asked.now.sources) (I.remaining input))
-        (source (F.given files.now) (other_file asked.now.sources) (I.remaining input)) (replay_said asked.now)
+    ensures answer { ReplaysOnTree asked.now (source (F.given files.now) (tree_file asked.now.sources) (I.remaining input))
+        (source (F.given files.now) (other_file asked.now.sources) (I.remaining input))
         (W.contents out.old) (W.contents out.new) result }
     ensures noted { IfOk result (λ _. IsPlain (source (F.given files.now) (tree_file asked.now.sources) (I.remaining input)) noted.new.beside) }
 {
@@ -75,7 +75,7 @@ fn replay_file<F: Files, W: Write>(
     file: &str,
     out: &mut W,
 ) -> Result<u8, CliFault>
-    ensures { OnText tree.now (λ read. ReplaysOver (F.given files.now file.now) (replay_said of.entry.asked.now (vocabulary_in tree.now) read)
+    ensures { OnText tree.now (λ read. ReplaysOver of.entry.asked.now.format (F.given files.now file.now) (replay_said of.entry.asked.now (vocabulary_in tree.now) read)
         (W.contents out.old) (W.contents out.new) result) }
 {
     let ops = opened(files, file)?;
@@ -90,7 +90,7 @@ fn replayed<O: Read + Drop, W: Write>(
     ops: O,
     out: &mut W,
 ) -> Result<u8, CliFault>
-    ensures { OnText tree.now (λ read. ReplaysOver (O.remaining ops) (replay_said of.entry.asked.now (vocabulary_in tree.now) read)
+    ensures { OnText tree.now (λ read. ReplaysOver of.entry.asked.now.format (O.remaining ops) (replay_said of.entry.asked.now (vocabulary_in tree.now) read)
         (W.contents out.old) (W.contents out.new) result) }
 {
     let inner = LineKept {
@@ -101,8 +101,17 @@ fn replayed<O: Read + Drop, W: Write>(
     let Ok(mut ops) = BufReader::new(alloc, inner) else {
         return Err(CliFault::NoMemory);
     };
+    let format = format_of(of.asked.format);
     let replayer = ids(&of.asked.user);
-    let ended = replay_from(alloc, tree, replayer, of.asked.subtree, &mut ops, out);
+    let ended = replay_from_in(
+        alloc,
+        format,
+        tree,
+        replayer,
+        of.asked.subtree,
+        &mut ops,
+        out,
+    );
     if let Err(CliFault::Line { .. }) = ended {
         if let Ok(kept) = line_of(alloc, &ops) {
             *of.line = kept;

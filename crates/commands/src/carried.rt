@@ -56,13 +56,22 @@ pub(crate) fn carried_out<F: Files, I: Read + Drop, W: Write>(
         Request::Advise(asked) => on_tree(alloc, asked, files, input, beside, out),
         Request::Upgrade(asked) => on_tree(alloc, asked, files, input, beside, out),
         Request::AdvisePairs(asked) => {
-            on_pairs(alloc, &Advising, asked.sources, files, input, noted, out)
+            let advising = Advising {
+                format: asked.format,
+            };
+            on_pairs(alloc, &advising, asked.sources, files, input, noted, out)
         }
         Request::AuditPairs(asked) => {
-            on_pairs(alloc, &Auditing, asked.sources, files, input, noted, out)
+            let auditing = Auditing {
+                format: asked.format,
+            };
+            on_pairs(alloc, &auditing, asked.sources, files, input, noted, out)
         }
         Request::ExplainPairs(asked) => {
-            on_pairs(alloc, &Explaining, asked.sources, files, input, noted, out)
+            let explaining = Explaining {
+                format: asked.format,
+            };
+            on_pairs(alloc, &explaining, asked.sources, files, input, noted, out)
         }
         Request::Replay(asked) => replay(alloc, asked, files, input, noted, out),
     }

@@ -14,8 +14,12 @@ use crate::lines::line_at;
 use crate::pairs::read_pairs;
 use crate::texts::both_texts;
 use crate::users::pair_ids;
+use arguments::format::Format;
 use arguments::request::Sources;
 use cg_cli::advise_pairs::advise_pairs_bytes;
+use cg_cli::as_json::advise_pairs::advise_pairs_json_bytes;
+use cg_cli::as_json::audit_pairs::audit_pairs_json_bytes;
+use cg_cli::as_json::explain::explain_pairs_json_bytes;
 use cg_cli::audit_pairs::audit_pairs_bytes;
 use cg_cli::explain_pairs::explain_pairs_bytes;
 use cg_cli::pairs::PairIds;
@@ -90,12 +94,14 @@ fn answered<C: OnPairs, W: Write>(
     }
 }
 
-/// What `advise` is asked of pairs.
+/// What `advise` is asked of pairs, and how that is to be written.
 #[derive(Drop)]
-pub(crate) struct Advising;
+pub(crate) struct Advising {
+    pub format: Format,
+}
 
 impl OnPairs for Advising {
-    ghost answers = { λ _. AdvisesOn };
+    ghost answers = { λ asked. AdvisesOn asked.format };
 
     fn answer<W: Write>(
         &self,
@@ -104,16 +110,21 @@ impl OnPairs for Advising {
         pairs: &[PairIds<'_>],
         out: &mut W,
     ) -> Result<u8, CliFault> {
-        advise_pairs_bytes(alloc, tree, pairs, out)
+        match self.format {
+            Format::Lines => advise_pairs_bytes(alloc, tree, pairs, out),
+            Format::Json => advise_pairs_json_bytes(alloc, tree, pairs, out),
+        }
     }
 }
 
 /// What `audit` is.
 #[derive(Drop)]
-pub(crate) struct Auditing;
+pub(crate) struct Auditing {
+    pub format: Format,
+}
 
 impl OnPairs for Auditing {
-    ghost answers = { λ _. AuditsOn };
+    ghost answers = { λ asked. AuditsOn asked.format };
 
     fn answer<W: Write>(
         &self,
@@ -122,16 +133,21 @@ impl OnPairs for Auditing {
         pairs: &[PairIds<'_>],
         out: &mut W,
     ) -> Result<u8, CliFault> {
-        audit_pairs_bytes(alloc, tree, pairs, out)
+        match self.format {
+            Format::Lines => audit_pairs_bytes(alloc, tree, pairs, out),
+            Format::Json => audit_pairs_json_bytes(alloc, tree, pairs, out),
+        }
     }
 }
 
 /// What `explain` is.
 #[derive(Drop)]
-pub(crate) struct Explaining;
+pub(crate) struct Explaining {
+    pub format: Format,
+}
 
 impl OnPairs for Explaining {
-    ghost answers = { λ _. ExplainsOn };
+    ghost answers = { λ asked. ExplainsOn asked.format };
 
     fn answer<W: Write>(
         &self,
@@ -140,6 +156,9 @@ impl OnPairs for Explaining {
         pairs: &[PairIds<'_>],
         out: &mut W,
     ) -> Result<u8, CliFault> {
-        explain_pairs_bytes(alloc, tree, pairs, out)
+        match self.format {
+            Format::Lines => explain_pairs_bytes(alloc, tree, pairs, out),
+            Format::Json => explain_pairs_json_bytes(alloc, tree, pairs, out),
+        }
     }
 }

@@ -15,9 +15,18 @@ use crate::both::plain;
 use crate::on_subtrees::against_everybody;
 use crate::texts::tree_text;
 use crate::users::{all_ids, ids};
+use arguments::format::Format;
 use arguments::request::{Advise, Audit, Check, Everybody, Explain, May, Upgrade};
 use cg_cli::advise::advise_bytes;
 use cg_cli::advise_settle::advise_settled_bytes;
+use cg_cli::as_json::advise::advise_json_bytes;
+use cg_cli::as_json::advise_settle::advise_settled_json_bytes;
+use cg_cli::as_json::audit::audit_json_bytes;
+use cg_cli::as_json::audit_all::audit_all_json_bytes;
+use cg_cli::as_json::audit_settle::{audit_all_settled_json_bytes, audit_settled_json_bytes};
+use cg_cli::as_json::check::{check_json_bytes, settle_json_bytes};
+use cg_cli::as_json::explain::explain_json_bytes;
+use cg_cli::as_json::may::may_json_bytes;
 use cg_cli::audit::audit_bytes;
 use cg_cli::audit_all::audit_all_bytes;
 use cg_cli::audit_settle::{audit_all_settled_bytes, audit_settled_bytes};
@@ -108,7 +117,10 @@ impl OnTree for May<'_> {
         out: &mut W,
     ) -> Result<u8, CliFault> {
         let (user, missing) = (ids(&self.user), &mut beside.missing);
-        may_bytes(alloc, tree, user, self.pid, self.to, missing, out)
+        match self.format {
+            Format::Lines => may_bytes(alloc, tree, user, self.pid, self.to, missing, out),
+            Format::Json => may_json_bytes(alloc, tree, user, self.pid, self.to, missing, out),
+        }
     }
 }
 
@@ -133,7 +145,10 @@ impl OnTree for Check<'_> {
         out: &mut W,
     ) -> Result<u8, CliFault> {
         let (user, stranger) = (ids(&self.user), &mut beside.stranger);
-        check_bytes(alloc, tree, user, self.subtree, stranger, out)
+        match self.format {
+            Format::Lines => check_bytes(alloc, tree, user, self.subtree, stranger, out),
+            Format::Json => check_json_bytes(alloc, tree, user, self.subtree, stranger, out),
+        }
     }
 }
 
@@ -163,8 +178,12 @@ impl OnTree for Settling<'_, '_> {
         beside: &mut Beside,
         out: &mut W,
     ) -> Result<u8, CliFault> {
-        let (user, stranger) = (ids(&self.asked.user), &mut beside.stranger);
-        settle_bytes(alloc, tree, user, self.asked.subtree, stranger, out)
+        let (user, subtree) = (ids(&self.asked.user), self.asked.subtree);
+        let stranger = &mut beside.stranger;
+        match self.asked.format {
+            Format::Lines => settle_bytes(alloc, tree, user, subtree, stranger, out),
+            Format::Json => settle_json_bytes(alloc, tree, user, subtree, stranger, out),
+        }
     }
 }
 
@@ -191,11 +210,31 @@ impl OnTree for Audit<'_> {
         let users = all_ids(alloc, self.users.as_slice())?;
         let (users, subtrees) = (users.as_slice(), self.subtrees.as_slice());
         let stranger = &mut beside.stranger;
-        match (self.settle, self.all) {
-            (false, false) => audit_bytes(alloc, tree, users, subtrees, stranger, out),
-            (false, true) => audit_all_bytes(alloc, tree, users, subtrees, stranger, out),
-            (true, false) => audit_settled_bytes(alloc, tree, users, subtrees, stranger, out),
-            (true, true) => audit_all_settled_bytes(alloc, tree, users, subtrees, stranger, out),
+        match (self.format, self.settle, self.all) {
+            (Format::Lines, false, false) => {
+                audit_bytes(alloc, tree, users, subtrees, stranger, out)
+            }
+            (Format::Lines, false, true) => {
+                audit_all_bytes(alloc, tree, users, subtrees, stranger, out)
+            }
+            (Format::Lines, true, false) => {
+                audit_settled_bytes(alloc, tree, users, subtrees, stranger, out)
+            }
+            (Format::Lines, true, true) => {
+                audit_all_settled_bytes(alloc, tree, users, subtrees, stranger, out)
+            }
+            (Format::Json, false, false) => {
+                audit_json_bytes(alloc, tree, users, subtrees, stranger, out)
+            }
+            (Format::Json, false, true) => {
+                audit_all_json_bytes(alloc, tree, users, subtrees, stranger, out)
+            }
+            (Format::Json, true, false) => {
+                audit_settled_json_bytes(alloc, tree, users, subtrees, stranger, out)
+            }
+            (Format::Json, true, true) => {
+                audit_all_settled_json_bytes(alloc, tree, users, subtrees, stranger, out)
+            }
         }
     }
 }
@@ -221,7 +260,15 @@ impl OnTree for Everybody<'_> {
         out: &mut W,
     ) -> Result<u8, CliFault> {
         let subtrees = self.subtrees.as_slice();
-        against_everybody(alloc, tree, self.wanted, &self.everyone, subtrees, out)
+        against_everybody(
+            alloc,
+            self.format,
+            tree,
+            self.wanted,
+            &self.everyone,
+            subtrees,
+            out,
+        )
     }
 }
 
@@ -248,7 +295,10 @@ impl OnTree for Explain<'_> {
         let users = all_ids(alloc, self.users.as_slice())?;
         let (users, subtrees) = (users.as_slice(), self.subtrees.as_slice());
         let stranger = &mut beside.stranger;
-        explain_bytes(alloc, tree, users, subtrees, stranger, out)
+        match self.format {
+            Format::Lines => explain_bytes(alloc, tree, users, subtrees, stranger, out),
+            Format::Json => explain_json_bytes(alloc, tree, users, subtrees, stranger, out),
+        }
     }
 }
 
@@ -275,10 +325,17 @@ impl OnTree for Advise<'_> {
         let users = all_ids(alloc, self.users.as_slice())?;
         let (users, subtrees) = (users.as_slice(), self.subtrees.as_slice());
         let stranger = &mut beside.stranger;
-        if self.settle {
-            advise_settled_bytes(alloc, tree, users, subtrees, stranger, out)
-        } else {
-            advise_bytes(alloc, tree, users, subtrees, stranger, out)
+        match (self.format, self.settle) {
+            (Format::Lines, false) => advise_bytes(alloc, tree, users, subtrees, stranger, out),
+            (Format::Lines, true) => {
+                advise_settled_bytes(alloc, tree, users, subtrees, stranger, out)
+            }
+            (Format::Json, false) => {
+                advise_json_bytes(alloc, tree, users, subtrees, stranger, out)
+            }
+            (Format::Json, true) => {
+                advise_settled_json_bytes(alloc, tree, users, subtrees, stranger, out)
+            }
         }
     }
 }

@@ -1,15 +1,17 @@
-//! Users and pairs as the command line names them, and what is wanted of everybody, handed to a call.
+//! Users and pairs as the command line names them, what is wanted of everybody, and how it is to be written, handed to a call.
 ghost use Rattle.std.specs.Prelude.{◌≡◌, map, IfOk, IfErr};
 ghost use Rattle.cg_cli.specs.Pairs.{pair_given};
 ghost use Rattle.cg_everybody.specs.Everybody.{members_of};
 ghost use Rattle.arguments.specs.Given.{ids_of, ids_of_pair, listed_group};
-ghost use Rattle.commands.specs.Requests.{wanted_of};
+ghost use Rattle.commands.specs.Requests.{format_of, wanted_of};
 
 use arguments::everyone::{ListedGroup, Wanted as Asked};
+use arguments::format::Format as Written;
 use arguments::named_pair::NamedPair;
 use arguments::named_user::NamedUser;
 use cg_cli::arguments::UserIds;
 use cg_cli::everybody::Wanted;
+use cg_cli::format::Format;
 use cg_cli::pairs::PairIds;
 use cg_everybody::asked::Members;
 use cg_faults::fault::CliFault;
@@ -49,6 +51,16 @@ pub(crate) fn wanted_of(asked: Asked) -> Wanted
         Asked::Audit => Wanted::Audit,
         Asked::Advise => Wanted::Advise,
         Asked::Explain => Wanted::Explain,
+    }
+}
+
+/// How an answer is to be written, as a call takes it.
+pub(crate) fn format_of(format: Written) -> Format
+    ensures { result ≡ format_of format }
+{
+    match format {
+        Written::Lines => Format::Lines,
+        Written::Json => Format::Json,
     }
 }
 

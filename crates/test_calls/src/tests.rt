@@ -2,6 +2,7 @@
 mod advise;
 mod advise_settle;
 mod answers_written;
+mod as_json;
 mod audit;
 mod audit_all;
 mod audit_settle;

@@ -18,7 +18,7 @@ use Rattle.cg_model.specs.declared.answer.Answer.TheVariants.{Contained, Escapes
 use Rattle.cg_cli.specs.Advising.{all_pairs}
 use Rattle.cg_cli.specs.AllPairs.{is_escape, read_then}
 use Rattle.cg_cli.specs.Audits.{users_read, paths_read}
-use Rattle.cg_cli.specs.Explaining.{pair_told, IsTold, pairs_asked, explain_asked, TellsPairs, ReportsTold}
+use Rattle.cg_cli.specs.Explaining.{Writing, pair_told, IsTold, pairs_asked, explain_asked, TellsPairsBy, ReportsToldBy}
 use Rattle.cg_cli.specs.Once.{same_user}
 use Rattle.cg_cli.specs.Settled.{IsSettled}
 use Rattle.cg_cli.proofs.AdviseReports.{subs_of}
@@ -51,10 +51,11 @@ module _ (st : State) (formed : IsWellFormed st) where
       let both = neither (not (is_contained each.found)) (list_any (λ each. not (is_contained each.found)) told) none in
       (one_contained each.user each.subtree each.found subs.0 are.0 both.0, each_contained told are.1 both.1 subs.1)
 
-  pub told_contained : (pairs : List Pair) (old new : Option (List ℕ)) (status : ℕ) → TellsPairs st pairs old new (Ok status) → status ≡ 0
+  pub told_contained : (written : Writing) (pairs : List Pair) (old new : Option (List ℕ)) (status : ℕ)
+      → TellsPairsBy written st pairs old new (Ok status) → status ≡ 0
       → AllByRecursion (λ (pair : Pair). IsSubtree st pair.subtree) pairs
       → All (λ (pair : Pair). IsContained st pair.user pair.subtree) pairs
-  told_contained pairs old new status tells zero subs =
+  told_contained written pairs old new status tells zero subs =
       All-from_recursion (λ (pair : Pair). IsContained st pair.user pair.subtree) pairs
       (subst (AllByRecursion (λ (pair : Pair). IsContained st pair.user pair.subtree)) tells.1.0
       (each_contained tells.0 (recursion_from_All (IsTold st) tells.0 tells.1.1)
@@ -77,16 +78,18 @@ module _ (st : State) (given : List (ℕ × List ℕ)) (words : List (List ℕ))
       of_users
       ∙ ap (λ p. read_then p (λ subtrees. pairs_asked st (once same_user users) (once same_path subtrees))) of_paths
 
-  pub explained_contained : (old new : Option (List ℕ)) (status : ℕ) → ReportsTold (explain_asked (Ok st) given words) old new (Ok status)
-      → status ≡ 0 → All (λ (pair : Pair). IsContained st pair.user pair.subtree) (all_pairs who tops)
-  explained_contained old new status reports zero = by_asked (explain_asked (Ok st) given words) refl reports
+  pub explained_contained : (written : Writing) (old new : Option (List ℕ)) (status : ℕ)
+      → ReportsToldBy written (explain_asked (Ok st) given words) old new (Ok status) → status ≡ 0
+      → All (λ (pair : Pair). IsContained st pair.user pair.subtree) (all_pairs who tops)
+  explained_contained written old new status reports zero = by_asked (explain_asked (Ok st) given words) refl reports
     where
       by_asked : (asked : Result (State × List Pair) CliFault) → explain_asked (Ok st) given words ≡ asked
-          → ReportsTold asked old new (Ok status) → All (λ (pair : Pair). IsContained st pair.user pair.subtree) (all_pairs who tops)
+          → ReportsToldBy written asked old new (Ok status)
+          → All (λ (pair : Pair). IsContained st pair.user pair.subtree) (all_pairs who tops)
       by_asked (Err fault) is never = absurd never
       by_asked (Ok asked) is tells =
           let stated =
           unfaulted (first (flat_map (subtree_faults st) tops)) (st, all_pairs who tops) asked (found_is _ asked (sym asked_is ∙ is)) in
-          told_contained st formed (all_pairs who tops) old new status
-          (subst (λ (both : State × List Pair). TellsPairs both.0 both.1 old new (Ok status)) (sym stated.1) tells) zero
+          told_contained st formed written (all_pairs who tops) old new status
+          (subst (λ (both : State × List Pair). TellsPairsBy written both.0 both.1 old new (Ok status)) (sym stated.1) tells) zero
           (subs_of st tops who (recursion_from_All (IsSubtree st) tops (all_there st tops stated.0)))

@@ -8,7 +8,7 @@ use Rattle.cg_model.specs.States.{State}
 use Rattle.cg_model.specs.WellFormed.{IsWellFormed}
 use Rattle.cg_model.specs.Clauses.{first}
 use Rattle.cg_model.specs.Once.{once}
-use Rattle.cg_model.specs.Checks.{subtree_faults}
+use Rattle.cg_model.specs.Checks.{subtree_faults, unless_fault}
 use Rattle.cg_model.specs.Guards.{IsSubtree}
 use Rattle.cg_model.specs.Several.{AreContained}
 use Rattle.cg_model.specs.Listed.{Listed}
@@ -17,17 +17,20 @@ use Rattle.cg_model.specs.declared.fault.CheckFault.{CheckFault}
 use Rattle.cg_second.specs.SecondRow.{AreSettled}
 use Rattle.cg_second.proofs.Runs.{are_settled}
 use Rattle.cg_advice.specs.AdviceLines.{advice_lines}
+use Rattle.cg_advice.specs.Found.{advice_parts}
 use Rattle.cg_cli.specs.Advising.{lines_report, all_pairs, advise_report}
+use Rattle.cg_cli.specs.AsJson.{parts_report, advice_json_report, advise_json_report, settled_json_report, advise_settled_json_report}
 use Rattle.cg_cli.specs.Audits.{users_read, paths_read}
 use Rattle.cg_cli.specs.FurtherAdvice.{AreHeld, AreHeldAsNamed, AdvisesFurther}
-use Rattle.cg_cli.specs.AllPairs.{ReportsPairs}
-use Rattle.cg_cli.specs.FurtherPairs.{listed_from, AreFurther, first_pair_status, first_pair_report, ReportsFirst}
+use Rattle.cg_cli.specs.AllPairs.{Listing, ReportsPairsBy}
+use Rattle.cg_cli.specs.FurtherPairs.{listed_from, AreFurther, first_pair_status, ReportsFirstBy}
 use Rattle.cg_cli.specs.Asking.{read_in_turn}
 use Rattle.cg_cli.specs.Audited.{AreKnownWithEach}
 use Rattle.cg_cli.specs.May.{tree_read}
 use Rattle.cg_cli.specs.SettledAdvice.{are_held, settled_lines, settled_advice, settled_report, advise_settled_report}
 use Rattle.cg_cli.specs.SettledPairs.{MayBeFound, MayFollow, MayReport, ReportsSettled}
 use Rattle.cg_cli.proofs.AdviseReports.{contained-unadvised}
+use Rattle.cg_cli.proofs.AsJson.{advise_settled_ending}
 use Rattle.cg_cli.proofs.AuditOnce.{same_user-is, some_once, contained_once}
 use Rattle.cg_cli.proofs.FurtherAdvice.{rows_hold, advises_further}
 use Rattle.cg_cli.proofs.FurtherPairs.{are_further}
@@ -109,6 +112,52 @@ module _ (st : State) (given : List (ℕ × List ℕ)) (words : List (List ℕ))
       well_formed : (other : State) → ◌≡◌ {A = Reading} (Ok st) (Ok other) → IsWellFormed other
       well_formed other is = subst IsWellFormed (same_Ok st other is) formed
 
+  -- the same as JSON
+
+  settled_json_is : advise_settled_json_report (Ok st) given words ≡ settled_json_report st who_once tops_once
+  settled_json_is =
+      ap (λ u. report_on u (λ users. report_on (paths_read words)
+      (λ subtrees. settled_json_report st (once same_user users) (once same_path subtrees)))) of_users
+      ∙ ap (λ p. report_on p (λ subtrees. settled_json_report st who_once (once same_path subtrees))) of_paths
+
+  advice_json_is : advise_json_report (Ok st) given words ≡ advice_json_report st tops_once (all_pairs who_once tops_once)
+  advice_json_is =
+      ap (λ u. report_on u (λ users. report_on (paths_read words)
+      (λ subtrees. advice_json_report st (once same_path subtrees) (all_pairs (once same_user users) (once same_path subtrees)))))
+      of_users
+      ∙ ap (λ p. report_on p (λ subtrees. advice_json_report st (once same_path subtrees) (all_pairs who_once (once same_path subtrees))))
+      of_paths
+
+  by_second_row : (holds : Bool) (fault : Option CheckFault) (old new : Option (List ℕ)) (status : ℕ)
+      → Reports (report_on (in_call (unless_fault fault (cond holds None (advice_parts st (all_pairs who_once tops_once))))) parts_report)
+      old new (Ok status)
+      → Reports (report_on (in_call (unless_fault fault (advice_parts st (all_pairs who_once tops_once)))) parts_report) old new (Ok status)
+      ⊎ Reports (parts_report None) old new (Ok status)
+  by_second_row false fault old new status said = inl said
+  by_second_row true None old new status said = inr said
+  by_second_row true (Some fault) old new status said =
+      let same : ◌≡◌ {A = Result ℕ CliFault} (Err (lifted_check fault)) (Ok status) = said.0 in
+      let never : ⊥ = cc in absurd never
+
+  -- with the status of lines, of which it doesn't matter what lay in a writer
+  pub settled_told_as_json : users ≢ [] → (old new : Option (List ℕ)) (status : ℕ)
+      → Reports (advise_settled_json_report (Ok st) given words) old new (Ok status)
+      → Reports (advise_settled_json_report (Ok st) given words) old new (Ok status)
+      × (Reports (advise_json_report (Ok st) given words) old new (Ok status) ⊎ Reports (parts_report None) old new (Ok status))
+      × (status ≡ 0 → AreHeld st users subtrees × (AreSettled st who_once tops_once ⊎ AreContained st users subtrees))
+  settled_told_as_json some old new status said =
+      let lines = settled_told some None None status (sym (advise_settled_ending (Ok st) given words) ∙ said.0, tt) in
+      let parts =
+      by_second_row (are_held st who_once tops_once) (first (flat_map (subtree_faults st) tops_once)) old new status
+      (subst (λ (r : Report). Reports r old new (Ok status)) settled_json_is said) in (
+        said,
+        elim parts [
+          | inl advice ↦ inl (subst (λ (r : Report). Reports r old new (Ok status)) (sym advice_json_is) advice)
+          | inr none ↦ inr none
+        ],
+        lines.2,
+      )
+
 -- ---- what is listed
 
 module _ (st : State) (given : List (ℕ × List ℕ)) (words : List (List ℕ)) (users : List Identity) (subtrees : List Names)
@@ -153,32 +202,35 @@ module _ (st : State) (given : List (ℕ × List ℕ)) (words : List (List ℕ))
     none_settled st who tops found formed there are.0 none (some_once same_user same_user-is users some),
   )
 
-  pub all_told : ReportsSettled ReportsPairs (Ok st) given words old new (Ok status)
-      → (found : ℕ → ℕ → Answer) × AreFound found × ReportsPairs (Ok (listed_from found 0 who tops)) old new (Ok status)
+  pub all_told : (how : Listing) → ReportsSettled (ReportsPairsBy how) (Ok st) given words old new (Ok status)
+      → (found : ℕ → ℕ → Answer) × AreFound found × ReportsPairsBy how (Ok (listed_from found 0 who tops)) old new (Ok status)
       × (status ≡ 0 → users ≢ [] → AreHeld st users subtrees × AreSettled st who tops)
-  all_told told =
-      listed_told ReportsPairs (λ fault said. said) (λ found there are reports. (
+  all_told how told =
+      listed_told (ReportsPairsBy how) (λ fault said. said) (λ found there are reports. (
         found,
         are,
         reports,
         λ zero some. held_and_settled found there are (all_none (listed_from found 0 who tops) (reports.0 ∙ zero)) some,
       )) told
 
-  no_status : (fault : CliFault) → ¬ (ReportsFirst (Err fault) old new (Ok status))
-  no_status fault said =
+  no_status : (first_said : List Listed → Report) (fault : CliFault) → ¬ (ReportsFirstBy first_said (Err fault) old new (Ok status))
+  no_status first_said fault said =
       let same : ◌≡◌ {A = Result ℕ CliFault} (Err fault) (Ok status) = said.0 in
       let never : ⊥ = cc in never
 
-  pub first_told : ReportsSettled ReportsFirst (Ok st) given words old new (Ok status)
-      → (found : ℕ → ℕ → Answer) × AreFound found × Reports (first_pair_report (listed_from found 0 who tops)) old new (Ok status)
+  pub first_told : (first_said : List Listed → Report)
+      → ((pairs : List Listed) → (first_said pairs).ending ≡ Ok (first_pair_status pairs))
+      → ReportsSettled (ReportsFirstBy first_said) (Ok st) given words old new (Ok status)
+      → (found : ℕ → ℕ → Answer) × AreFound found × Reports (first_said (listed_from found 0 who tops)) old new (Ok status)
       × (status ≡ 0 → users ≢ [] → AreHeld st users subtrees × AreSettled st who tops)
-  first_told told =
-      listed_told ReportsFirst no_status (λ found there are reports. (
+  first_told first_said ends told =
+      listed_told (ReportsFirstBy first_said) (no_status first_said) (λ found there are reports. (
         found,
         are,
         reports,
         λ zero some.
             held_and_settled found there are
             (first_none found 0 who tops
-            (same_Ok (first_pair_status (listed_from found 0 who tops)) status reports.0 ∙ zero)) some,
+            (same_Ok (first_pair_status (listed_from found 0 who tops)) status
+            (sym (ends (listed_from found 0 who tops)) ∙ reports.0) ∙ zero)) some,
       )) told

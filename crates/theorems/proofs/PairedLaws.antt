@@ -22,9 +22,9 @@ use Rattle.cg_advice.specs.AdviceLines.{pairs_lines}
 use Rattle.cg_cli.specs.Audits.{users_read, paths_read}
 use Rattle.cg_cli.specs.Reports.{report_on}
 use Rattle.cg_cli.specs.Advising.{paired, advice_report, advise_pairs_report, named_with, AreContainedAsNamed, IsAdvisable}
-use Rattle.cg_cli.specs.AllPairs.{read_then, ReportsPairs}
+use Rattle.cg_cli.specs.AllPairs.{Listing, read_then, ReportsPairsBy}
 use Rattle.cg_cli.specs.EachPair.{pairs_listed, pairs_then, audited_unless_fault, audit_pairs_report, explain_pairs_asked, UnlistedAsNamed}
-use Rattle.cg_cli.specs.Explaining.{asked_unless_fault, TellsPairs, ReportsTold}
+use Rattle.cg_cli.specs.Explaining.{Writing, asked_unless_fault, TellsPairsBy, ReportsToldBy}
 use Rattle.cg_cli.proofs.NamedPairs.{contained-as-named, advised-as-named, each_named, some_named, paired_subtrees}
 use Rattle.cg_cli.proofs.EachPair.{unlisted-as-named}
 use Rattle.cg_escapes.proofs.EscapeReplays.{found_is, unfaulted}
@@ -118,13 +118,13 @@ module _ (st : State) (given : List ((ℕ × List ℕ) × List ℕ)) (users : Li
       (λ subtrees. found st subtrees (paired users subtrees)))) of_users
       ∙ ap (λ p. read_then p (λ subtrees. found st subtrees (paired users subtrees))) of_paths
 
-  pub audited_as_named : (old new : Option (List ℕ)) (status : ℕ)
-      → ReportsPairs (audit_pairs_report (Ok st) given) old new (Ok status)
+  pub audited_as_named : (how : Listing) (old new : Option (List ℕ)) (status : ℕ)
+      → ReportsPairsBy how (audit_pairs_report (Ok st) given) old new (Ok status)
       → UnlistedAsNamed st (paired users subtrees) × (status ≡ 0 → AreContainedAsNamed st (paired users subtrees))
-  audited_as_named old new status reports = by_report (audit_pairs_report (Ok st) given) refl reports
+  audited_as_named how old new status reports = by_report (audit_pairs_report (Ok st) given) refl reports
     where
       by_report : (report : Result (List Listed) CliFault) → audit_pairs_report (Ok st) given ≡ report
-          → ReportsPairs report old new (Ok status)
+          → ReportsPairsBy how report old new (Ok status)
           → UnlistedAsNamed st (paired users subtrees) × (status ≡ 0 → AreContainedAsNamed st (paired users subtrees))
       by_report (Err fault) is never = absurd never
       by_report (Ok listed) is reports =
@@ -136,18 +136,19 @@ module _ (st : State) (given : List ((ℕ × List ℕ) × List ℕ)) (users : Li
             λ zero. contained_unlisted st (paired users subtrees) unlisted (stated.1 ∙ all_none listed (reports.0 ∙ zero)),
           )
 
-  pub explained_as_named : (old new : Option (List ℕ)) (status : ℕ)
-      → ReportsTold (explain_pairs_asked (Ok st) given) old new (Ok status) → status ≡ 0
+  pub explained_as_named : (written : Writing) (old new : Option (List ℕ)) (status : ℕ)
+      → ReportsToldBy written (explain_pairs_asked (Ok st) given) old new (Ok status) → status ≡ 0
       → All (λ (pair : Pair). IsContained st pair.user pair.subtree) (paired users subtrees)
-  explained_as_named old new status reports zero = by_asked (explain_pairs_asked (Ok st) given) refl reports
+  explained_as_named written old new status reports zero = by_asked (explain_pairs_asked (Ok st) given) refl reports
     where
       by_asked : (asked : Result (State × List Pair) CliFault) → explain_pairs_asked (Ok st) given ≡ asked
-          → ReportsTold asked old new (Ok status) → All (λ (pair : Pair). IsContained st pair.user pair.subtree) (paired users subtrees)
+          → ReportsToldBy written asked old new (Ok status)
+          → All (λ (pair : Pair). IsContained st pair.user pair.subtree) (paired users subtrees)
       by_asked (Err fault) is never = absurd never
       by_asked (Ok asked) is tells =
           let stated =
           unfaulted (first (flat_map (subtree_faults st) subtrees)) (st, paired users subtrees) asked
           (found_is _ asked (sym (then_is asked_unless_fault) ∙ is)) in
-          told_contained st formed (paired users subtrees) old new status
-          (subst (λ (both : State × List Pair). TellsPairs both.0 both.1 old new (Ok status)) (sym stated.1) tells) zero
+          told_contained st formed written (paired users subtrees) old new status
+          (subst (λ (both : State × List Pair). TellsPairsBy written both.0 both.1 old new (Ok status)) (sym stated.1) tells) zero
           (paired_subtrees st users subtrees stated.0)

@@ -9,6 +9,7 @@ use Rattle.cg_cgroup.specs.Paths.{Names, path_at, same_path}
 use Rattle.cg_cgroup.specs.Numbers.{pid_of}
 use Rattle.cg_cgroup.specs.Users.{user_of}
 use Rattle.cg_cgroup.specs.Identity.{Identity}
+use Rattle.cg_model.specs.Listed.{Listed}
 use Rattle.cg_model.specs.States.{State}
 use Rattle.cg_model.specs.Bars.{bars}
 use Rattle.cg_model.specs.Guards.{IsSubtree}
@@ -30,30 +31,38 @@ use Rattle.cg_lines.specs.OperationLines.{HaveLines}
 use Rattle.cg_report.specs.AnswerLines.{op_lines}
 use Rattle.cg_cli.specs.Advising.{all_pairs, paired, advise_report, advise_pairs_report, AreContainedAsNamed}
 use Rattle.cg_cli.specs.FurtherAdvice.{AreHeld}
-use Rattle.cg_cli.specs.FurtherPairs.{listed_from, AreFurther, first_pair_report}
-use Rattle.cg_cli.specs.AllPairs.{all_report, ReportsPairs}
+use Rattle.cg_cli.specs.FurtherPairs.{listed_from, AreFurther, first_pair_status}
+use Rattle.cg_cli.specs.AllPairs.{all_report, ReportsPairsBy}
+use Rattle.cg_cli.specs.AsJson.{answer_json_report, parts_report, may_json_report, check_json_report, audit_json_report, advise_json_report, advise_pairs_json_report}
 use Rattle.cg_cli.specs.Asking.{CallEnding}
 use Rattle.cg_cli.specs.EachPair.{audit_pairs_report, explain_pairs_asked, UnlistedAsNamed}
-use Rattle.cg_cli.specs.Containment.{answer_report}
-use Rattle.cg_cli.specs.Explaining.{explain_asked, ReportsTold}
+use Rattle.cg_cli.specs.Containment.{answer_report, check_report}
+use Rattle.cg_cli.specs.Explaining.{explain_asked, ReportsToldBy}
+use Rattle.cg_cli.specs.Formats.{told_in, listing_in, first_in}
+use Rattle.cg_cli.specs.declared.format.Format.{Format}
+use Rattle.cg_cli.specs.declared.format.Format.TheVariants.{Lines, Json}
 use Rattle.cg_cli.specs.declared.everybody.Wanted.{Wanted}
-use Rattle.cg_cli.specs.Everybody.{everybody_report}
+use Rattle.cg_cli.specs.Everybody.{everybody_report_in}
 use Rattle.cg_everybody.specs.Everybody.{GuardsHoldForEverybody}
 use Rattle.machine_everybody.specs.Everybody.{Everybody as Whom, IsAsked}
 use Rattle.cg_cli.specs.Settled.{IsSettledFrom}
-use Rattle.cg_cli.specs.SettledAdvice.{advise_settled_report}
-use Rattle.cg_cli.specs.Settling.{IsFurther}
+use Rattle.cg_cli.specs.May.{may_report}
+use Rattle.cg_cli.specs.Settling.{AskedReports, IsFurther}
 use Rattle.cg_cli.specs.Audits.{users_read, paths_read, audit_report}
 use Rattle.cg_cli.specs.Once.{same_user}
-use Rattle.cg_cli.specs.Replays.{closed, replay_report}
+use Rattle.cg_cli.specs.Replays.{closed_in, replay_report}
 use Rattle.cg_cli.specs.Replaying.{Reporting, Replays}
-use Rattle.cg_cli.specs.Reports.{Reports}
+use Rattle.cg_cli.specs.Reports.{Report, Reports}
+use Rattle.cg_cli.proofs.FormatEndings.{replay_ending}
+use Rattle.cg_cli.proofs.AsJson.{may_ending, check_ending, audit_ending, advise_ending, advise_pairs_ending}
 use Rattle.cg_cli.specs.Upgrades.{Upgrades, IsNewText, upgrade_report}
 use Rattle.cg_faults.specs.declared.fault.CliFault.{CliFault}
 use Rattle.cg_faults.specs.declared.fault.CliFault.TheVariants.{Pid, BadPath}
 use Rattle.clap.specs.declared.error.Error.{Error}
 use Rattle.arguments.specs.Words.{Makes}
 use Rattle.arguments.specs.Given.{ids_of, tree_file, other_file}
+use Rattle.arguments.specs.declared.format.Format.{Format as Written}
+use Rattle.arguments.specs.declared.format.Format.TheVariants as written_as
 use Rattle.arguments.specs.declared.request.May.{May}
 use Rattle.arguments.specs.declared.request.Check.{Check}
 use Rattle.arguments.specs.declared.request.Audit.{Audit}
@@ -69,17 +78,17 @@ use Rattle.arguments.specs.declared.request.Request.TheVariants as request
 use Rattle.streams.specs.declared.write.WriteFailed.{WriteFailed}
 use Rattle.commands.specs.PairLines.{GivenPair, pairs_read, AsksSomething}
 use Rattle.commands.specs.SubtreeLines.{subtrees_read, AreLinesOf}
-use Rattle.commands.specs.Requests.{Files, source, name_of, may_said, check_said, whom, wanted_of, everybody_asked, SettlesAs, AdviseSays, AdvisesOn, AuditsOn, ExplainsOn, EverybodyOn, OnLines, OnBothTexts, GuardsSay, FurtherSay, AuditSays, ExplainSays, replay_said, OnTreeText, OnTree, ReplaysOver, CarriesOut}
+use Rattle.commands.specs.Requests.{Files, source, name_of, may_said, check_said, whom, wanted_of, everybody_asked, format_of, in_format, audit_said, advise_said, advise_settled_said, advise_pairs_said, replay_written, SettlesIn, SettlesAs, AdviseSays, AdvisesOn, AuditsOn, ExplainsOn, EverybodyOn, OnLines, OnBothTexts, GuardsSay, FurtherSay, AuditSays, ExplainSays, replay_said, OnTreeText, OnTree, ReplaysOver, CarriesOut}
 use Rattle.commands.specs.Runs.{CarriesOutBuffered, LeadsTo, LiesBelow, RunsTo}
 use Rattle.commands.specs.declared.fault.Fault.{Fault}
 use Rattle.commands.specs.declared.fault.Fault.TheVariants.{Usage, Cli}
 use Rattle.commands.proofs.BufferedLaws.{CarriesOut-Keeps}
 use Rattle.commands.proofs.PairLaws.{asked_about}
 use Rattle.commands.proofs.SubtreeLaws.{are_lines}
-use Rattle.commands.proofs.YesLaws.{not_unread, flushed_is}
+use Rattle.commands.proofs.YesLaws.{not_unread, flushed_is, ends_alike, everybody_ended}
 use Rattle.machine_answers.proofs.GuardedLaws.{named_read, contained_by_status}
 use Rattle.theorems.proofs.SettledLaws.{settled_as}
-use Rattle.theorems.proofs.FurtherLaws.{settled_told, all_told, first_told}
+use Rattle.theorems.proofs.FurtherLaws.{settled_told, settled_told_as_json, all_told, first_told}
 use Rattle.theorems.proofs.StatusLaws.{all_contained_by_status, all_contained_by_pairs, all_contained_by_advice}
 use Rattle.theorems.proofs.EverybodyLaws.{all_hold, all_contained}
 use Rattle.theorems.proofs.ExplainedLaws.{explained_contained}
@@ -162,13 +171,13 @@ each_alone : (A B : Type 0) (all : Bool) → all ≡ true → MatchBool all A B 
 each_alone A B all is said = subst (λ b. MatchBool b A B) is said
 
 -- what is answered on the operations that there are
-on_operations : (said : Reporting) (known old new : Option (List ℕ)) (status : ℕ) (ops : List ℕ) → known ≡ Some ops
-    → ReplaysOver known said old new (Ok status) → Replays closed said ops old new (Ok status)
-on_operations said known old new status ops of_known (inl over) =
+on_operations : (format : Written) (said : Reporting) (known old new : Option (List ℕ)) (status : ℕ) (ops : List ℕ) → known ≡ Some ops
+    → ReplaysOver format known said old new (Ok status) → Replays (closed_in (format_of format)) said ops old new (Ok status)
+on_operations format said known old new status ops of_known (inl over) =
     let replays = over.1 in
     let same : replays.0 ≡ ops = subst (λ k. IfSome k (λ bytes. replays.0 ≡ bytes)) of_known replays.1 in
-    subst (λ bytes. Replays closed said bytes old new (Ok status)) same replays.2
-on_operations said known old new status ops of_known (inr unread) = not_unread old new status unread
+    subst (λ bytes. Replays (closed_in (format_of format)) said bytes old new (Ok status)) same replays.2
+on_operations format said known old new status ops of_known (inr unread) = not_unread old new status unread
 
 -- what is answered of what the lines name that there are
 on_lines : {A : Type 0} (lines : List ℕ → Result (List A) CliFault) (Says : List A → Reading → CallEnding)
@@ -194,11 +203,24 @@ pairs_named Says pairs (Ok named) is st old new status said =
     (named, sym is, asked_about Says pairs (Ok named) is (Ok st) old new status said, said)
 pairs_named Says pairs (Err fault) is st old new status said = let never : ⊥ = let same = said.0 in cc in absurd never
 
-subtrees_named : (wanted : Wanted) (asked : Whom) (lines : List ℕ) (read : Result (List (List ℕ)) CliFault) → read ≡ subtrees_read lines
-    → (st : State) (old new : Option (List ℕ)) (status : ℕ) → OnLines (EverybodyOn wanted asked) read (Ok st) old new (Ok status)
-    → (named : List (List ℕ)) × (subtrees_read lines ≡ Ok named) × Reports (everybody_report wanted asked (Ok st) named) old new (Ok status)
-subtrees_named wanted asked lines (Ok named) is st old new status said = (named, sym is, said)
-subtrees_named wanted asked lines (Err fault) is st old new status said = let never : ⊥ = let same = said.0 in cc in absurd never
+subtrees_named : (format : Written) (wanted : Wanted) (asked : Whom) (lines : List ℕ) (read : Result (List (List ℕ)) CliFault)
+    → read ≡ subtrees_read lines → (st : State) (old new : Option (List ℕ)) (status : ℕ)
+    → OnLines (EverybodyOn format wanted asked) read (Ok st) old new (Ok status)
+    → (named : List (List ℕ)) × (subtrees_read lines ≡ Ok named)
+    × Reports (everybody_report_in (format_of format) wanted asked (Ok st) named) old new (Ok status)
+subtrees_named format wanted asked lines (Ok named) is st old new status said = (named, sym is, said)
+subtrees_named format wanted asked lines (Err fault) is st old new status said = let never : ⊥ = let same = said.0 in cc in absurd never
+
+-- ---- how it is written
+
+-- a report that ends alike in each format, and has a status
+ended_as : (format : Written) (lines json : Report) → json.ending ≡ lines.ending → (old new : Option (List ℕ)) (status : ℕ)
+    → Reports (in_format format lines json) old new (Ok status) → (wanted : ℕ) → status ≡ wanted → lines.ending ≡ Ok wanted
+ended_as format lines json same old new status report wanted is = sym (ends_alike format lines json same) ∙ report.0 ∙ ap Ok is
+
+first_ends : (format : Format) (pairs : List Listed) → (first_in format pairs).ending ≡ Ok (first_pair_status pairs)
+first_ends Lines pairs = refl
+first_ends Json pairs = refl
 
 -- ---- command by command
 
@@ -224,7 +246,9 @@ module _ (files : Files) (given old new : Option (List ℕ)) (status : ℕ) wher
               nothing_bars st may.user.uid may.user.gids.items user may.pid pid may.to.now to
               (named_read may.user.uid may.user.gids.items user of_user)
               (ap (λ (found : Option ℕ). ok_or found Pid) of_pid) (ap (λ (found : Option Names). ok_or found BadPath) of_path)
-              (report.0 ∙ ap Ok zero),
+              (ended_as may.format (may_report (Ok st) may.user.uid may.user.gids.items may.pid may.to.now)
+              (may_json_report (Ok st) may.user.uid may.user.gids.items may.pid may.to.now)
+              (may_ending (Ok st) may.user.uid may.user.gids.items may.pid may.to.now) old new status report 0 zero),
         )
 
     pub check_ended : (check : Check) → CarriesOut (request.Check check) files given old new (Ok status)
@@ -239,7 +263,9 @@ module _ (files : Files) (given old new : Option (List ℕ)) (status : ℕ) wher
           report,
           λ zero user subtree of_user of_path.
               contained_by_status text st check.user.uid check.user.gids.items user check.subtree.now subtree of_text of_user of_path
-              (report.0 ∙ ap Ok zero),
+              (ended_as check.format (check_report (Ok st) check.user.uid check.user.gids.items check.subtree.now)
+              (check_json_report (Ok st) check.user.uid check.user.gids.items check.subtree.now)
+              (check_ending (Ok st) check.user.uid check.user.gids.items check.subtree.now) old new status report 0 zero),
         )
 
     pub everybody_ended : (asked : Everybody) (subtrees : List Names)
@@ -254,111 +280,136 @@ module _ (files : Files) (given old new : Option (List ℕ)) (status : ℕ) wher
         let words : List (List ℕ) = map (λ subtree. subtree.now) asked.subtrees.items in
         let report =
         on_state (λ read. Reports (everybody_asked asked read) old new (Ok status)) (source files (name_of asked.tree) given) old new status
-        text st of_known of_text carried in (
+        text st of_known of_text carried in
+        let ended = everybody_ended asked.format (wanted_of asked.wanted) (whom asked.everyone) (Ok st) words status report.0 in (
           report,
-          all_hold st (wanted_of asked.wanted) (whom asked.everyone) words subtrees status of_paths report.0,
-          all_contained st (wanted_of asked.wanted) (whom asked.everyone) words subtrees status of_paths report.0 of_text.says.formed,
+          all_hold st (wanted_of asked.wanted) (whom asked.everyone) words subtrees status of_paths ended,
+          all_contained st (wanted_of asked.wanted) (whom asked.everyone) words subtrees status of_paths ended of_text.says.formed,
         )
 
     pub subtrees_ended : (asked : Subtrees) (lines : List ℕ) → CarriesOut (request.Subtrees asked) files given old new (Ok status)
         → source files (tree_file asked.sources) given ≡ Some text → source files (other_file asked.sources) given ≡ Some lines
         → IsTextOf st text → length lines ≤ 16777216
         → (named : List (List ℕ)) × (subtrees_read lines ≡ Ok named) × AreLinesOf lines named
-        × Reports (everybody_report (wanted_of asked.wanted) (whom asked.everyone) (Ok st) named) old new (Ok status)
+        × Reports (everybody_report_in (format_of asked.format) (wanted_of asked.wanted) (whom asked.everyone) (Ok st) named) old new
+        (Ok status)
         × ((subtrees : List Names) → paths_read named ≡ Ok subtrees
         → ((status ≡ 0) ↔ All (GuardsHoldForEverybody st (whom asked.everyone)) subtrees)
         × (status ≡ 0 → (users : List Identity) → AllByRecursion (IsAsked (whom asked.everyone)) users → users ≢ []
         → AreContained st users subtrees))
     subtrees_ended asked lines carried of_known of_lines of_text short =
         let said =
-        subtrees_named (wanted_of asked.wanted) (whom asked.everyone) lines (subtrees_read lines) refl st old new status
-        (on_lines subtrees_read (EverybodyOn (wanted_of asked.wanted) (whom asked.everyone)) (source files (tree_file asked.sources) given)
+        subtrees_named asked.format (wanted_of asked.wanted) (whom asked.everyone) lines (subtrees_read lines) refl st old new status
+        (on_lines subtrees_read (EverybodyOn asked.format (wanted_of asked.wanted) (whom asked.everyone))
+        (source files (tree_file asked.sources) given)
         (source files (other_file asked.sources) given) old new status text lines st of_known of_lines of_text short carried) in (
           said.0,
           said.1,
           (are_lines lines said.0 said.1).0,
           said.2,
-          λ subtrees of_paths. (
-            all_hold st (wanted_of asked.wanted) (whom asked.everyone) said.0 subtrees status of_paths said.2.0,
-            all_contained st (wanted_of asked.wanted) (whom asked.everyone) said.0 subtrees status of_paths said.2.0 of_text.says.formed,
-          ),
+          λ subtrees of_paths.
+              let ended =
+              everybody_ended asked.format (wanted_of asked.wanted) (whom asked.everyone) (Ok st) said.0 status said.2.0 in (
+                all_hold st (wanted_of asked.wanted) (whom asked.everyone) said.0 subtrees status of_paths ended,
+                all_contained st (wanted_of asked.wanted) (whom asked.everyone) said.0 subtrees status of_paths ended of_text.says.formed,
+              ),
         )
 
     pub settle_ended : (check : Check) (user : Identity) (subtree : Names)
         → CarriesOut (request.Settle check) files given old new (Ok status)
         → source files (name_of check.tree) given ≡ Some text → IsTextOf st text
         → user_of check.user.uid check.user.gids.items ≡ Some user → path_at check.subtree.now ≡ Some subtree
-        → (found : Answer) × Reports (answer_report subtree found) old new (Ok status)
+        → (found : Answer)
+        × Reports (in_format check.format (answer_report subtree found) (answer_json_report subtree found)) old new (Ok status)
         × IsSettledFrom st user subtree (answer st user subtree) found
         × IsFurther st user subtree (answer st user subtree) found
         × (found ≡ Contained → IsContained st user subtree)
         × ((ops : List Op) → found ≡ Escapes ops → ¬ (IsHeld st (by_user user ops) subtree))
     settle_ended check user subtree carried of_known of_text of_user of_path =
-        settled_as st user subtree check.user.uid check.user.gids.items check.subtree.now of_user of_path of_text.says.formed old new status
+        by_format check.format
         (on_state (SettlesAs check old new (Ok status)) (source files (name_of check.tree) given) old new status text st of_known of_text
         carried)
+      where
+        by_format : (format : Written)
+            → AskedReports (SettlesIn format) (Ok st) check.user.uid check.user.gids.items check.subtree.now old new (Ok status)
+            → (found : Answer)
+            × Reports (in_format format (answer_report subtree found) (answer_json_report subtree found)) old new (Ok status)
+            × IsSettledFrom st user subtree (answer st user subtree) found
+            × IsFurther st user subtree (answer st user subtree) found
+            × (found ≡ Contained → IsContained st user subtree)
+            × ((ops : List Op) → found ≡ Escapes ops → ¬ (IsHeld st (by_user user ops) subtree))
+        by_format written_as.Lines reported =
+            settled_as answer_report st user subtree check.user.uid check.user.gids.items check.subtree.now of_user of_path
+            of_text.says.formed old new status reported
+        by_format written_as.Json reported =
+            settled_as answer_json_report st user subtree check.user.uid check.user.gids.items check.subtree.now of_user of_path
+            of_text.says.formed old new status reported
 
     pub advise_pairs_ended : (asked : Pairs) (pairs : List ℕ) → CarriesOut (request.AdvisePairs asked) files given old new (Ok status)
         → source files (tree_file asked.sources) given ≡ Some text → source files (other_file asked.sources) given ≡ Some pairs
         → IsTextOf st text → length pairs ≤ 16777216
         → (named : List ((ℕ × List ℕ) × List ℕ)) × (pairs_read pairs ≡ Ok named) × AsksSomething pairs
-        × Reports (advise_pairs_report (Ok st) named) old new (Ok status)
+        × Reports (advise_pairs_said asked.format (Ok st) named) old new (Ok status)
         × ((users : List Identity) (subtrees : List Names) → users_read (map (λ pair. pair.0) named) ≡ Ok users
         → paths_read (map (λ pair. pair.1) named) ≡ Ok subtrees
         → status ≡ 0 → AreContainedAsNamed st (paired users subtrees))
     advise_pairs_ended asked pairs carried of_known of_pairs of_text short =
         let said =
-        pairs_named AdvisesOn pairs (pairs_read pairs) refl st old new status
-        (on_lines pairs_read AdvisesOn (source files (tree_file asked.sources) given) (source files (other_file asked.sources) given)
-        old new status text pairs st of_known of_pairs of_text short carried) in (
+        pairs_named (AdvisesOn asked.format) pairs (pairs_read pairs) refl st old new status
+        (on_lines pairs_read (AdvisesOn asked.format) (source files (tree_file asked.sources) given)
+        (source files (other_file asked.sources) given) old new status text pairs st of_known of_pairs of_text short carried) in (
           said.0,
           said.1,
           said.2,
           said.3,
           λ users subtrees of_users of_paths.
-              λ zero. contained_as_they_are st said.0 users subtrees of_text.says.formed of_users of_paths (said.3.0 ∙ ap Ok zero),
+              λ zero. contained_as_they_are st said.0 users subtrees of_text.says.formed of_users of_paths
+              (ended_as asked.format (advise_pairs_report (Ok st) said.0) (advise_pairs_json_report (Ok st) said.0)
+              (advise_pairs_ending (Ok st) said.0) old new status said.3 0 zero),
         )
 
     pub audit_pairs_ended : (asked : Pairs) (pairs : List ℕ) → CarriesOut (request.AuditPairs asked) files given old new (Ok status)
         → source files (tree_file asked.sources) given ≡ Some text → source files (other_file asked.sources) given ≡ Some pairs
         → IsTextOf st text → length pairs ≤ 16777216
         → (named : List ((ℕ × List ℕ) × List ℕ)) × (pairs_read pairs ≡ Ok named) × AsksSomething pairs
-        × ReportsPairs (audit_pairs_report (Ok st) named) old new (Ok status)
+        × ReportsPairsBy (listing_in (format_of asked.format)) (audit_pairs_report (Ok st) named) old new (Ok status)
         × ((users : List Identity) (subtrees : List Names) → users_read (map (λ pair. pair.0) named) ≡ Ok users
         → paths_read (map (λ pair. pair.1) named) ≡ Ok subtrees
         → UnlistedAsNamed st (paired users subtrees) × (status ≡ 0 → AreContainedAsNamed st (paired users subtrees)))
     audit_pairs_ended asked pairs carried of_known of_pairs of_text short =
         let said =
-        pairs_named AuditsOn pairs (pairs_read pairs) refl st old new status
-        (on_lines pairs_read AuditsOn (source files (tree_file asked.sources) given) (source files (other_file asked.sources) given)
-        old new status text pairs st of_known of_pairs of_text short carried) in (
+        pairs_named (AuditsOn asked.format) pairs (pairs_read pairs) refl st old new status
+        (on_lines pairs_read (AuditsOn asked.format) (source files (tree_file asked.sources) given)
+        (source files (other_file asked.sources) given) old new status text pairs st of_known of_pairs of_text short carried) in (
           said.0,
           said.1,
           said.2,
           said.3,
           λ users subtrees of_users of_paths.
-              audited_as_named st said.0 users subtrees of_text.says.formed of_users of_paths old new status said.3,
+              audited_as_named st said.0 users subtrees of_text.says.formed of_users of_paths (listing_in (format_of asked.format)) old new
+              status said.3,
         )
 
     pub explain_pairs_ended : (asked : Pairs) (pairs : List ℕ) → CarriesOut (request.ExplainPairs asked) files given old new (Ok status)
         → source files (tree_file asked.sources) given ≡ Some text → source files (other_file asked.sources) given ≡ Some pairs
         → IsTextOf st text → length pairs ≤ 16777216
         → (named : List ((ℕ × List ℕ) × List ℕ)) × (pairs_read pairs ≡ Ok named) × AsksSomething pairs
-        × ReportsTold (explain_pairs_asked (Ok st) named) old new (Ok status)
+        × ReportsToldBy (told_in (format_of asked.format)) (explain_pairs_asked (Ok st) named) old new (Ok status)
         × ((users : List Identity) (subtrees : List Names) → users_read (map (λ pair. pair.0) named) ≡ Ok users
         → paths_read (map (λ pair. pair.1) named) ≡ Ok subtrees
         → status ≡ 0 → All (λ pair. IsContained st pair.user pair.subtree) (paired users subtrees))
     explain_pairs_ended asked pairs carried of_known of_pairs of_text short =
         let said =
-        pairs_named ExplainsOn pairs (pairs_read pairs) refl st old new status
-        (on_lines pairs_read ExplainsOn (source files (tree_file asked.sources) given) (source files (other_file asked.sources) given)
-        old new status text pairs st of_known of_pairs of_text short carried) in (
+        pairs_named (ExplainsOn asked.format) pairs (pairs_read pairs) refl st old new status
+        (on_lines pairs_read (ExplainsOn asked.format) (source files (tree_file asked.sources) given)
+        (source files (other_file asked.sources) given) old new status text pairs st of_known of_pairs of_text short carried) in (
           said.0,
           said.1,
           said.2,
           said.3,
           λ users subtrees of_users of_paths.
-              explained_as_named st said.0 users subtrees of_text.says.formed of_users of_paths old new status said.3,
+              explained_as_named st said.0 users subtrees of_text.says.formed of_users of_paths (told_in (format_of asked.format)) old new
+              status said.3,
         )
 
     pub upgrade_ended : (upgrade : Upgrade) → CarriesOut (request.Upgrade upgrade) files given old new (Ok status)
@@ -374,20 +425,18 @@ module _ (files : Files) (given old new : Option (List ℕ)) (status : ℕ) wher
     replay_reported : (replay : Replay) (ops : List ℕ) → CarriesOut (request.Replay replay) files given old new (Ok status)
         → source files (tree_file replay.sources) given ≡ Some text → source files (other_file replay.sources) given ≡ Some ops
         → IsTextOf st text
-        → Reports (replay_report (vocabulary_in text) (Ok st) replay.user.uid replay.user.gids.items
-        (name_of replay.subtree) ops) old new (Ok status)
+        → Reports (replay_written replay (vocabulary_in text) (Ok st) ops) old new (Ok status)
     replay_reported replay ops carried of_known of_ops of_text =
-        on_operations (replay_said replay (vocabulary_in text) (Ok st)) (source files
+        on_operations replay.format (replay_said replay (vocabulary_in text) (Ok st)) (source files
         (other_file replay.sources) given) old new status ops of_ops
-        (on_text (λ vocabulary read. ReplaysOver (source files (other_file replay.sources) given)
+        (on_text (λ vocabulary read. ReplaysOver replay.format (source files (other_file replay.sources) given)
         (replay_said replay vocabulary read) old new (Ok status))
         (source files (tree_file replay.sources) given) old new status text st of_known of_text carried)
 
     pub replay_ended : (replay : Replay) (ops : List ℕ) → CarriesOut (request.Replay replay) files given old new (Ok status)
         → source files (tree_file replay.sources) given ≡ Some text → source files (other_file replay.sources) given ≡ Some ops
         → IsTextOf st text
-        → Reports (replay_report (vocabulary_in text) (Ok st) replay.user.uid replay.user.gids.items
-        (name_of replay.subtree) ops) old new (Ok status)
+        → Reports (replay_written replay (vocabulary_in text) (Ok st) ops) old new (Ok status)
         × (status ≡ 0 → (user : Identity) (word : List ℕ) (subtree : Names) (tried : List Op)
         → user_of replay.user.uid replay.user.gids.items ≡ Some user → name_of replay.subtree ≡ Some word → path_at word ≡ Some subtree
         → IsSubtree st subtree → HaveLines (vocabulary_in text) tried → ops ≡ op_lines tried → IsHeld st (by_user user tried) subtree)
@@ -399,6 +448,8 @@ module _ (files : Files) (given old new : Option (List ℕ)) (status : ℕ) wher
               (named_read replay.user.uid replay.user.gids.items user of_user) word subtree tried
               (ap (λ (found : Option Names). ok_or found BadPath) of_path) sub lines
               ((λ i. (replay_report (vocabulary_in text) (Ok st) replay.user.uid replay.user.gids.items (sym of_word i) (sym are i)).ending)
+              ∙ sym (replay_ending (format_of replay.format) (vocabulary_in text) (Ok st) replay.user.uid replay.user.gids.items
+              (name_of replay.subtree) ops)
               ∙ report.0 ∙ ap Ok zero),
         )
 
@@ -415,31 +466,46 @@ module _ (files : Files) (given old new : Option (List ℕ)) (status : ℕ) wher
           on_state (AdviseSays advise old new (Ok status)) (source files (name_of advise.tree) given) old new status text st of_known
           of_text carried
 
-      pub advise_ended : advise.settle ≡ false → Reports (advise_report (Ok st) who paths) old new (Ok status)
+      pub advise_ended : advise.settle ≡ false
+          → Reports (advise_said advise.format (Ok st) who paths) old new (Ok status)
           × (status ≡ 0 → (users : List Identity) (subtrees : List Names) → users_read who ≡ Ok users → paths_read paths ≡ Ok subtrees
           → users ≢ [] → AreContained st users subtrees)
       advise_ended guards =
           let report = first_alone _ _ advise.settle guards told in (
             report,
             λ zero users subtrees of_users of_paths some.
-                all_contained_by_advice st who paths users subtrees of_text.says.formed of_users of_paths some (report.0 ∙ ap Ok zero),
+                all_contained_by_advice st who paths users subtrees of_text.says.formed of_users of_paths some
+                (ended_as advise.format (advise_report (Ok st) who paths) (advise_json_report (Ok st) who paths)
+                (advise_ending (Ok st) who paths) old new status report 0 zero),
           )
 
       pub advise_settled_ended : (users : List Identity) (subtrees : List Names) → advise.settle ≡ true → users_read who ≡ Ok users
           → paths_read paths ≡ Ok subtrees → users ≢ []
-          → Reports (advise_settled_report (Ok st) who paths) old new (Ok status)
-          × (Reports (advise_report (Ok st) who paths) old new (Ok status)
-          ⊎ Reports (record { text = codes "contained\n"; ending = Ok 0 }) old new (Ok status))
+          → Reports (advise_settled_said advise.format (Ok st) who paths) old new (Ok status)
+          × (Reports (advise_said advise.format (Ok st) who paths) old new (Ok status)
+          ⊎ Reports (in_format advise.format (record { text = codes "contained\n"; ending = Ok 0 }) (parts_report None)) old new
+          (Ok status))
           × (status ≡ 0 → AreHeld st users subtrees
           × (AreSettled st (once same_user users) (once same_path subtrees) ⊎ AreContained st users subtrees))
       advise_settled_ended users subtrees further of_users of_paths some =
-          settled_told st who paths users subtrees of_text.says.formed of_users of_paths some old new status
-          (each_alone _ _ advise.settle further told)
+          by_format advise.format (each_alone _ _ advise.settle further told)
+        where
+          by_format : (format : Written)
+              → Reports (advise_settled_said format (Ok st) who paths) old new (Ok status)
+              → Reports (advise_settled_said format (Ok st) who paths) old new (Ok status)
+              × (Reports (advise_said format (Ok st) who paths) old new (Ok status)
+              ⊎ Reports (in_format format (record { text = codes "contained\n"; ending = Ok 0 }) (parts_report None)) old new (Ok status))
+              × (status ≡ 0 → AreHeld st users subtrees
+              × (AreSettled st (once same_user users) (once same_path subtrees) ⊎ AreContained st users subtrees))
+          by_format written_as.Lines =
+              settled_told st who paths users subtrees of_text.says.formed of_users of_paths some old new status
+          by_format written_as.Json =
+              settled_told_as_json st who paths users subtrees of_text.says.formed of_users of_paths some old new status
 
     pub explain_ended : (explain : Explain) → CarriesOut (request.Explain explain) files given old new (Ok status)
         → source files (name_of explain.tree) given ≡ Some text → IsTextOf st text
-        → ReportsTold (explain_asked (Ok st) (map ids_of explain.users.items) (map (λ subtree. subtree.now) explain.subtrees.items)) old new
-        (Ok status)
+        → ReportsToldBy (told_in (format_of explain.format))
+        (explain_asked (Ok st) (map ids_of explain.users.items) (map (λ subtree. subtree.now) explain.subtrees.items)) old new (Ok status)
         × (status ≡ 0 → (users : List Identity) (subtrees : List Names) → users_read (map ids_of explain.users.items) ≡ Ok users
         → paths_read (map (λ subtree. subtree.now) explain.subtrees.items) ≡ Ok subtrees
         → All (λ (pair : Pair). IsContained st pair.user pair.subtree) (all_pairs (once same_user users) (once same_path subtrees)))
@@ -450,7 +516,7 @@ module _ (files : Files) (given old new : Option (List ℕ)) (status : ℕ) wher
           report,
           λ zero users subtrees of_users of_paths.
               explained_contained st (map ids_of explain.users.items) (map (λ subtree. subtree.now) explain.subtrees.items) users subtrees
-              of_text.says.formed of_users of_paths old new status report zero,
+              of_text.says.formed of_users of_paths (told_in (format_of explain.format)) old new status report zero,
         )
 
     module _ (audit : Audit) (carried : CarriesOut (request.Audit audit) files given old new (Ok status))
@@ -466,51 +532,58 @@ module _ (files : Files) (given old new : Option (List ℕ)) (status : ℕ) wher
           on_state (AuditSays audit old new (Ok status)) (source files (name_of audit.tree) given) old new status text st of_known of_text
           carried
 
-      by_guards : audit.settle ≡ false → GuardsSay audit.all users subtrees old new (Ok status) (Ok st)
+      by_guards : audit.settle ≡ false → GuardsSay audit.format audit.all users subtrees old new (Ok status) (Ok st)
       by_guards guards = first_alone _ _ audit.settle guards audited
 
-      pub all_ended : audit.settle ≡ false → audit.all ≡ true → ReportsPairs (all_report (Ok st) users subtrees) old new (Ok status)
+      pub all_ended : audit.settle ≡ false → audit.all ≡ true
+          → ReportsPairsBy (listing_in (format_of audit.format)) (all_report (Ok st) users subtrees) old new (Ok status)
           × (status ≡ 0 → (who : List Identity) (paths : List Names) → users_read users ≡ Ok who → paths_read subtrees ≡ Ok paths
           → who ≢ [] → AreContained st who paths)
       all_ended guards each =
           let report = each_alone _ _ audit.all each (by_guards guards) in (
             report,
             λ zero who paths of_users of_paths some.
-                all_contained_by_pairs st users subtrees who paths of_text.says.formed of_users of_paths some old new status report zero,
+                all_contained_by_pairs st users subtrees who paths of_text.says.formed of_users of_paths
+                (listing_in (format_of audit.format)) some old new status report zero,
           )
 
-      pub audit_ended : audit.settle ≡ false → audit.all ≡ false → Reports (audit_report (Ok st) users subtrees) old new (Ok status)
+      pub audit_ended : audit.settle ≡ false → audit.all ≡ false
+          → Reports (audit_said audit.format (Ok st) users subtrees) old new (Ok status)
           × (status ≡ 0 → (who : List Identity) (paths : List Names) → users_read users ≡ Ok who → paths_read subtrees ≡ Ok paths
           → who ≢ [] → AreContained st who paths)
       audit_ended guards first =
           let report = first_alone _ _ audit.all first (by_guards guards) in (
             report,
             λ zero who paths of_users of_paths some.
-                all_contained_by_status st users subtrees who paths of_text.says.formed of_users of_paths some (report.0 ∙ ap Ok zero),
+                all_contained_by_status st users subtrees who paths of_text.says.formed of_users of_paths some
+                (ended_as audit.format (audit_report (Ok st) users subtrees) (audit_json_report (Ok st) users subtrees)
+                (audit_ending (Ok st) users subtrees) old new status report 0 zero),
           )
 
       -- where more is known
       module _ (who : List Identity) (paths : List Names) (further : audit.settle ≡ true) (of_users : users_read users ≡ Ok who)
           (of_paths : paths_read subtrees ≡ Ok paths) where
-        by_more : FurtherSay audit.all users subtrees old new (Ok status) (Ok st)
+        by_more : FurtherSay audit.format audit.all users subtrees old new (Ok status) (Ok st)
         by_more = each_alone _ _ audit.settle further audited
 
         pub all_settled_ended : audit.all ≡ true
             → (found : ℕ → ℕ → Answer)
             × (AreKnownWithEach st (once same_user who) (once same_path paths) found
             × AreFurther st (once same_user who) (once same_path paths) found)
-            × ReportsPairs (Ok (listed_from found 0 (once same_user who) (once same_path paths))) old new (Ok status)
+            × ReportsPairsBy (listing_in (format_of audit.format)) (Ok (listed_from found 0 (once same_user who) (once same_path paths)))
+            old new (Ok status)
             × (status ≡ 0 → who ≢ [] → AreHeld st who paths × AreSettled st (once same_user who) (once same_path paths))
         all_settled_ended each =
-            all_told st users subtrees who paths of_text.says.formed of_users of_paths old new status
+            all_told st users subtrees who paths of_text.says.formed of_users of_paths old new status (listing_in (format_of audit.format))
             (each_alone _ _ audit.all each by_more)
 
         pub settled_ended : audit.all ≡ false
             → (found : ℕ → ℕ → Answer)
             × (AreKnownWithEach st (once same_user who) (once same_path paths) found
             × AreFurther st (once same_user who) (once same_path paths) found)
-            × Reports (first_pair_report (listed_from found 0 (once same_user who) (once same_path paths))) old new (Ok status)
+            × Reports (first_in (format_of audit.format) (listed_from found 0 (once same_user who) (once same_path paths))) old new
+            (Ok status)
             × (status ≡ 0 → who ≢ [] → AreHeld st who paths × AreSettled st (once same_user who) (once same_path paths))
         settled_ended first =
-            first_told st users subtrees who paths of_text.says.formed of_users of_paths old new status
-            (first_alone _ _ audit.all first by_more)
+            first_told st users subtrees who paths of_text.says.formed of_users of_paths old new status (first_in (format_of audit.format))
+            (first_ends (format_of audit.format)) (first_alone _ _ audit.all first by_more)

@@ -10,7 +10,7 @@ use Rattle.cg_model.specs.Clauses.{first}
 use Rattle.cg_model.specs.Guards.{IsSubtree}
 use Rattle.cg_model.specs.Held.{IsHeld, by_user, IsContained}
 use Rattle.cg_model.specs.Answers.{answer}
-use Rattle.cg_model.specs.Checks.{subtree_faults, unless_fault}
+use Rattle.cg_model.specs.Checks.{subtree_faults, unless_fault, checked}
 use Rattle.cg_model.specs.declared.answer.Answer.{Answer}
 use Rattle.cg_model.specs.declared.answer.Answer.TheVariants.{Contained, Escapes, Unsettled}
 use Rattle.cg_model.specs.declared.fault.CheckFault.{CheckFault}
@@ -19,10 +19,10 @@ use Rattle.cg_laws.proofs.RunLaws.{contained-guarded}
 use Rattle.cg_check.proofs.AnswerLaws.{escape-broken}
 use Rattle.cg_check.proofs.Checking.{no_fault, answer-guarded}
 use Rattle.cg_cli.specs.Arguments.{path_read}
-use Rattle.cg_cli.specs.Containment.{in_call, answer_report}
+use Rattle.cg_cli.specs.Containment.{in_call}
 use Rattle.cg_cli.specs.Reports.{Report, Reports}
 use Rattle.cg_cli.specs.Settled.{IsSettledFrom, IsSettled}
-use Rattle.cg_cli.specs.Settling.{SaysOn, AskedSays, AskedReports, FurtherSays, IsFurther}
+use Rattle.cg_cli.specs.Settling.{SaysOn, AskedSays, AskedReports, IsFurther}
 use Rattle.cg_faults.specs.Faults.{lifted_check}
 use Rattle.cg_faults.specs.declared.fault.CliFault.{CliFault}
 use Rattle.cg_faults.specs.declared.fault.CliFault.TheVariants.{BadPath}
@@ -30,18 +30,6 @@ use Rattle.cg_cli.proofs.SettleReports.{goes_further}
 use Rattle.machine_answers.proofs.GuardedLaws.{named_read}
 
 module _ (st : State) (user : Identity) (subtree : Names) where
-  abbrev SaysAfter : Answer → Report → Type 0
-  SaysAfter given said = (found : Answer) × IsSettledFrom st user subtree given found × (said ≡ answer_report subtree found)
-
-  -- what is said with a status is an answer, of a subtree without a fault
-  answered : (fault : Option CheckFault) (stated : Answer) (said : Report) (status : ℕ)
-      → SaysOn (in_call (unless_fault fault stated)) SaysAfter said → said.ending ≡ Ok status
-      → (fault ≡ None) × SaysAfter stated said
-  answered None stated said status says is = (refl, says)
-  answered (Some fault) stated said status says is =
-      let same : ◌≡◌ {A = Result ℕ CliFault} (Err (lifted_check fault)) (Ok status) = ap (λ (r : Report). r.ending) (sym says) ∙ is in
-      let never : ⊥ = cc in absurd never
-
   contained_further : (given found : Answer) → (given ≡ Contained → IsContained st user subtree)
       → IsFurther st user subtree given found → found ≡ Contained → IsContained st user subtree
   contained_further Contained found known is same = known refl
@@ -64,19 +52,37 @@ module _ (st : State) (user : Identity) (subtree : Names) where
       let one : others ≡ ops = cc in subst (λ list. ¬ (IsHeld st (by_user user list) subtree)) one is.1
   escapes_further (Unsettled failed) (Unsettled other) ops known is same = let never : ⊥ = cc in absurd never
 
+-- what is said by an answer that follows from what check answers, and how that is shown
+abbrev pub SaysBy : (Names → Answer → Report) → State → Identity → Names → Report → Type 0
+SaysBy shown st user subtree =
+    SaysOn (in_call (checked st user subtree))
+    (λ given said. (found : Answer) × IsSettledFrom st user subtree given found × (said ≡ shown subtree found))
+
+module _ (shown : Names → Answer → Report) (st : State) (user : Identity) (subtree : Names) where
+  abbrev SaysAfter : Answer → Report → Type 0
+  SaysAfter given said = (found : Answer) × IsSettledFrom st user subtree given found × (said ≡ shown subtree found)
+
+  -- what is said with a status is an answer, of a subtree without a fault
+  answered : (fault : Option CheckFault) (stated : Answer) (said : Report) (status : ℕ)
+      → SaysOn (in_call (unless_fault fault stated)) SaysAfter said → said.ending ≡ Ok status
+      → (fault ≡ None) × SaysAfter stated said
+  answered None stated said status says is = (refl, says)
+  answered (Some fault) stated said status says is =
+      let same : ◌≡◌ {A = Result ℕ CliFault} (Err (lifted_check fault)) (Ok status) = ap (λ (r : Report). r.ending) (sym says) ∙ is in
+      let never : ⊥ = cc in absurd never
+
   module _ (uid : ℕ) (gids word : List ℕ) (of_user : user_of uid gids ≡ Some user) (of_path : path_at word ≡ Some subtree)
       (formed : IsWellFormed st) where
-    of_state : (said : Report) → AskedSays (FurtherSays IsSettledFrom) (Ok st) uid gids word said
-        → FurtherSays IsSettledFrom st user subtree said
+    of_state : (said : Report) → AskedSays (SaysBy shown) (Ok st) uid gids word said → SaysBy shown st user subtree said
     of_state said asked =
-        subst (λ p. SaysOn p (λ path. FurtherSays IsSettledFrom st user path) said)
+        subst (λ p. SaysOn p (λ path. SaysBy shown st user path) said)
         (ap (λ (found : Option Names). ok_or found BadPath) of_path)
-        (subst (λ u. SaysOn u (λ user. SaysOn (path_read word) (λ path. FurtherSays IsSettledFrom st user path)) said)
+        (subst (λ u. SaysOn u (λ user. SaysOn (path_read word) (λ path. SaysBy shown st user path)) said)
         (named_read uid gids user of_user) asked)
 
     pub settled_as : (old new : Option (List ℕ)) (status : ℕ)
-        → AskedReports (FurtherSays IsSettledFrom) (Ok st) uid gids word old new (Ok status)
-        → (found : Answer) × Reports (answer_report subtree found) old new (Ok status)
+        → AskedReports (SaysBy shown) (Ok st) uid gids word old new (Ok status)
+        → (found : Answer) × Reports (shown subtree found) old new (Ok status)
         × IsSettledFrom st user subtree (answer st user subtree) found
         × IsFurther st user subtree (answer st user subtree) found
         × (found ≡ Contained → IsContained st user subtree)
@@ -91,9 +97,9 @@ module _ (st : State) (user : Identity) (subtree : Names) where
           subst (λ (r : Report). Reports r old new (Ok status)) says.1.2 reported.2,
           says.1.1,
           further,
-          contained_further (answer st user subtree) says.1.0
+          contained_further st user subtree (answer st user subtree) says.1.0
               (λ is. contained-guarded st user subtree formed there (answer-guarded st user subtree is)) further,
-          λ ops. escapes_further (answer st user subtree) says.1.0 ops (escape-broken st user subtree ops) further,
+          λ ops. escapes_further st user subtree (answer st user subtree) says.1.0 ops (escape-broken st user subtree ops) further,
         )
 
 -- a subtree of which settle says that it is contained is

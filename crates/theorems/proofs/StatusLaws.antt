@@ -24,7 +24,7 @@ use Rattle.cg_cli.specs.Reports.{Report, report_on}
 use Rattle.cg_cli.specs.Containment.{in_call}
 use Rattle.cg_cli.specs.Audits.{users_read, paths_read, audit_status, audit_answer_report, pairs_report, audit_report}
 use Rattle.cg_cli.specs.Once.{same_user}
-use Rattle.cg_cli.specs.AllPairs.{read_then, pairs_found, all_report, ReportsPairs, UnlistedAreContained}
+use Rattle.cg_cli.specs.AllPairs.{Listing, read_then, pairs_found, all_report, ReportsPairsBy, UnlistedAreContained}
 use Rattle.cg_cli.specs.Advising.{lines_report, all_pairs, advised as advice_of, advice_report, advise_report}
 use Rattle.cg_advice.specs.AdviceLines.{advice_lines}
 use Rattle.cg_cli.proofs.AdviseReports.{contained-unadvised}
@@ -111,12 +111,12 @@ module _ (st : State) (given : List (ℕ × List ℕ)) (words : List (List ℕ))
       (sym stated.1, all-unlisted st (once same_user users) (once same_path subtrees) stated.0 (λ _. formed))
 
   -- where no pair is listed
-  pub all_contained_by_pairs : users ≢ [] → (old new : Option (List ℕ)) (status : ℕ)
-      → ReportsPairs (all_report (Ok st) given words) old new (Ok status) → status ≡ 0 → AreContained st users subtrees
-  all_contained_by_pairs some old new status reports zero = by_report (all_report (Ok st) given words) refl reports
+  pub all_contained_by_pairs : (how : Listing) → users ≢ [] → (old new : Option (List ℕ)) (status : ℕ)
+      → ReportsPairsBy how (all_report (Ok st) given words) old new (Ok status) → status ≡ 0 → AreContained st users subtrees
+  all_contained_by_pairs how some old new status reports zero = by_report (all_report (Ok st) given words) refl reports
     where
       by_report : (report : Result (List Listed) CliFault) → all_report (Ok st) given words ≡ report
-          → ReportsPairs report old new (Ok status) → AreContained st users subtrees
+          → ReportsPairsBy how report old new (Ok status) → AreContained st users subtrees
       by_report (Err fault) is never = absurd never
       by_report (Ok pairs) is reports =
           let stated =

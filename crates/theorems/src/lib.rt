@@ -51,14 +51,15 @@ ghost use Rattle.cg_cli.specs.Courses.{verdict_status};
 ghost use Rattle.cg_cli.specs.Replays.{is_newline, longest_line, outcome_of, replay_report};
 ghost use Rattle.cg_cli.specs.Containment.{answer_report, check_report};
 ghost use Rattle.cg_cli.specs.Settled.{IsSettledFrom};
-ghost use Rattle.cg_cli.specs.SettledAdvice.{advise_settled_report};
 ghost use Rattle.cg_cli.specs.Settling.{IsFurther};
 ghost use Rattle.cg_cli.specs.Audited.{AreKnownWithEach};
 ghost use Rattle.cg_cli.specs.Audits.{users_read, paths_read, audit_report};
 ghost use Rattle.cg_cli.specs.Once.{same_user};
-ghost use Rattle.cg_cli.specs.AllPairs.{all_report, ReportsPairs, UnlistedAreContained};
-ghost use Rattle.cg_cli.specs.Explaining.{explain_asked, ReportsTold};
-ghost use Rattle.cg_cli.specs.Everybody.{everybody_report};
+ghost use Rattle.cg_cli.specs.AllPairs.{all_report, ReportsPairsBy, UnlistedAreContained};
+ghost use Rattle.cg_cli.specs.AsJson.{answer_json_report, parts_report};
+ghost use Rattle.cg_cli.specs.Explaining.{explain_asked, ReportsToldBy};
+ghost use Rattle.cg_cli.specs.Formats.{told_in, listing_in, first_in};
+ghost use Rattle.cg_cli.specs.Everybody.{everybody_report, everybody_report_in};
 ghost use Rattle.cg_cli.specs.declared.everybody.Wanted.TheVariants.{Advise as AdviseWanted};
 ghost use Rattle.cg_everybody.specs.Advice.{everybody_advice, everybody_advised, IsAdvisedToEverybody};
 ghost use Rattle.cg_everybody.specs.Everybody.{GuardsHoldForEverybody};
@@ -67,7 +68,7 @@ ghost use Rattle.machine_everybody.specs.Everybody.{Everybody as Whom, IsAsked};
 ghost use Rattle.cg_cli.specs.EachPair.{audit_pairs_report, explain_pairs_asked, UnlistedAsNamed};
 ghost use Rattle.cg_cli.specs.Upgrades.{upgrade_report, IsNewText};
 ghost use Rattle.cg_cli.specs.FurtherAdvice.{AreHeld};
-ghost use Rattle.cg_cli.specs.FurtherPairs.{listed_from, AreFurther, first_pair_report};
+ghost use Rattle.cg_cli.specs.FurtherPairs.{listed_from, AreFurther};
 ghost use Rattle.cg_cli.specs.Advising.{all_pairs, paired, advise_report, advise_pairs_report, IsAdvisable, AreNamed, AreContainedAsNamed};
 ghost use Rattle.cg_faults.specs.declared.fault.CliFault.{CliFault};
 ghost use Rattle.cg_faults.specs.declared.fault.CliFault.TheVariants.{Line};
@@ -92,7 +93,7 @@ ghost use Rattle.arguments.specs.declared.request.Request.{Request};
 ghost use Rattle.arguments.specs.declared.request.Request.TheVariants as request;
 ghost use Rattle.commands.specs.PairLines.{pairs_read, AsksSomething};
 ghost use Rattle.commands.specs.SubtreeLines.{subtrees_read, AreLinesOf};
-ghost use Rattle.commands.specs.Requests.{Files, source, name_of, may_said, check_said, whom, wanted_of, everybody_asked, CarriesOut};
+ghost use Rattle.commands.specs.Requests.{Files, source, name_of, may_said, check_said, whom, wanted_of, everybody_asked, format_of, in_format, audit_said, advise_said, advise_settled_said, advise_pairs_said, replay_written, CarriesOut};
 ghost use Rattle.commands.specs.Runs.{LeadsTo, RunsTo};
 ghost use Rattle.commands.specs.declared.fault.Fault.{Fault};
 ghost use Rattle.streams.specs.declared.write.WriteFailed.{WriteFailed};
@@ -296,7 +297,8 @@ pub fn the_program()
         → CarriesOut (request.Settle check) files given old new (Ok status)
         → source files (name_of check.tree) given ≡ Some text → IsTextOf st text
         → user_of check.user.uid check.user.gids.items ≡ Some user → path_at check.subtree.now ≡ Some subtree
-        → (found : Answer) × Reports (answer_report subtree found) old new (Ok status)
+        → (found : Answer)
+        × Reports (in_format check.format (answer_report subtree found) (answer_json_report subtree found)) old new (Ok status)
         × IsSettledFrom st user subtree (answer st user subtree) found
         × IsFurther st user subtree (answer st user subtree) found
         × (found ≡ Contained → IsContained st user subtree)
@@ -304,13 +306,15 @@ pub fn the_program()
     ensures audit { (audit : Audit) (files : Files) (given old new : Option (List ℕ)) (status : ℕ) (text : List ℕ) (st : State)
         → CarriesOut (request.Audit audit) files given old new (Ok status) → audit.settle ≡ false → audit.all ≡ false
         → source files (name_of audit.tree) given ≡ Some text → IsTextOf st text
-        → Reports (audit_report (Ok st) (map ids_of audit.users.items) (map (λ subtree. subtree.now) audit.subtrees.items)) old new (Ok status)
+        → Reports (audit_said audit.format (Ok st) (map ids_of audit.users.items) (map (λ subtree. subtree.now) audit.subtrees.items)) old new
+        (Ok status)
         × (status ≡ 0 → (users : List Identity) (subtrees : List Names) → users_read (map ids_of audit.users.items) ≡ Ok users
         → paths_read (map (λ subtree. subtree.now) audit.subtrees.items) ≡ Ok subtrees → users ≢ [] → AreContained st users subtrees) }
     ensures audit_all { (audit : Audit) (files : Files) (given old new : Option (List ℕ)) (status : ℕ) (text : List ℕ) (st : State)
         → CarriesOut (request.Audit audit) files given old new (Ok status) → audit.settle ≡ false → audit.all ≡ true
         → source files (name_of audit.tree) given ≡ Some text → IsTextOf st text
-        → ReportsPairs (all_report (Ok st) (map ids_of audit.users.items) (map (λ subtree. subtree.now) audit.subtrees.items)) old new (Ok status)
+        → ReportsPairsBy (listing_in (format_of audit.format))
+        (all_report (Ok st) (map ids_of audit.users.items) (map (λ subtree. subtree.now) audit.subtrees.items)) old new (Ok status)
         × (status ≡ 0 → (users : List Identity) (subtrees : List Names) → users_read (map ids_of audit.users.items) ≡ Ok users
         → paths_read (map (λ subtree. subtree.now) audit.subtrees.items) ≡ Ok subtrees → users ≢ [] → AreContained st users subtrees) }
     ensures everybody { (asked : Everybody) (files : Files) (given old new : Option (List ℕ)) (status : ℕ) (text : List ℕ) (st : State) (subtrees : List Names)
@@ -325,7 +329,7 @@ pub fn the_program()
         → source files (tree_file asked.sources) given ≡ Some text → source files (other_file asked.sources) given ≡ Some lines
         → IsTextOf st text → length lines ≤ 16777216
         → (named : List (List ℕ)) × (subtrees_read lines ≡ Ok named) × AreLinesOf lines named
-        × Reports (everybody_report (wanted_of asked.wanted) (whom asked.everyone) (Ok st) named) old new (Ok status)
+        × Reports (everybody_report_in (format_of asked.format) (wanted_of asked.wanted) (whom asked.everyone) (Ok st) named) old new (Ok status)
         × ((subtrees : List Names) → paths_read named ≡ Ok subtrees
         → ((status ≡ 0) ↔ All (GuardsHoldForEverybody st (whom asked.everyone)) subtrees)
         × (status ≡ 0 → (users : List Identity) → AllByRecursion (IsAsked (whom asked.everyone)) users → users ≢ [] → AreContained st users subtrees)) }
@@ -335,7 +339,8 @@ pub fn the_program()
         → paths_read (map (λ subtree. subtree.now) audit.subtrees.items) ≡ Ok subtrees
         → (found : ℕ → ℕ → Answer) × (AreKnownWithEach st (once same_user users) (once same_path subtrees) found
         × AreFurther st (once same_user users) (once same_path subtrees) found)
-        × Reports (first_pair_report (listed_from found 0 (once same_user users) (once same_path subtrees))) old new (Ok status)
+        × Reports (first_in (format_of audit.format) (listed_from found 0 (once same_user users) (once same_path subtrees))) old new
+        (Ok status)
         × (status ≡ 0 → users ≢ []
         → AreHeld st users subtrees × AreSettled st (once same_user users) (once same_path subtrees)) }
     ensures audit_all_settled { (audit : Audit) (files : Files) (given old new : Option (List ℕ)) (status : ℕ) (text : List ℕ) (st : State) (users : List Identity) (subtrees : List Names)
@@ -344,7 +349,8 @@ pub fn the_program()
         → paths_read (map (λ subtree. subtree.now) audit.subtrees.items) ≡ Ok subtrees
         → (found : ℕ → ℕ → Answer) × (AreKnownWithEach st (once same_user users) (once same_path subtrees) found
         × AreFurther st (once same_user users) (once same_path subtrees) found)
-        × ReportsPairs (Ok (listed_from found 0 (once same_user users) (once same_path subtrees))) old new (Ok status)
+        × ReportsPairsBy (listing_in (format_of audit.format))
+        (Ok (listed_from found 0 (once same_user users) (once same_path subtrees))) old new (Ok status)
         × (status ≡ 0 → users ≢ []
         → AreHeld st users subtrees × AreSettled st (once same_user users) (once same_path subtrees)) }
     ensures audit_pairs { (asked : Pairs) (files : Files) (given old new : Option (List ℕ)) (status : ℕ) (text pairs : List ℕ) (st : State)
@@ -352,14 +358,15 @@ pub fn the_program()
         → source files (tree_file asked.sources) given ≡ Some text → source files (other_file asked.sources) given ≡ Some pairs
         → IsTextOf st text → length pairs ≤ 16777216
         → (named : List ((ℕ × List ℕ) × List ℕ)) × (pairs_read pairs ≡ Ok named) × AsksSomething pairs
-        × ReportsPairs (audit_pairs_report (Ok st) named) old new (Ok status)
+        × ReportsPairsBy (listing_in (format_of asked.format)) (audit_pairs_report (Ok st) named) old new (Ok status)
         × ((users : List Identity) (subtrees : List Names) → users_read (map (λ pair. pair.0) named) ≡ Ok users
         → paths_read (map (λ pair. pair.1) named) ≡ Ok subtrees
         → UnlistedAsNamed st (paired users subtrees) × (status ≡ 0 → AreContainedAsNamed st (paired users subtrees))) }
     ensures explain { (explain : Explain) (files : Files) (given old new : Option (List ℕ)) (status : ℕ) (text : List ℕ) (st : State)
         → CarriesOut (request.Explain explain) files given old new (Ok status)
         → source files (name_of explain.tree) given ≡ Some text → IsTextOf st text
-        → ReportsTold (explain_asked (Ok st) (map ids_of explain.users.items) (map (λ subtree. subtree.now) explain.subtrees.items)) old new (Ok status)
+        → ReportsToldBy (told_in (format_of explain.format))
+        (explain_asked (Ok st) (map ids_of explain.users.items) (map (λ subtree. subtree.now) explain.subtrees.items)) old new (Ok status)
         × (status ≡ 0 → (users : List Identity) (subtrees : List Names) → users_read (map ids_of explain.users.items) ≡ Ok users
         → paths_read (map (λ subtree. subtree.now) explain.subtrees.items) ≡ Ok subtrees
         → All (λ pair. IsContained st pair.user pair.subtree) (all_pairs (once same_user users) (once same_path subtrees))) }
@@ -368,23 +375,26 @@ pub fn the_program()
         → source files (tree_file asked.sources) given ≡ Some text → source files (other_file asked.sources) given ≡ Some pairs
         → IsTextOf st text → length pairs ≤ 16777216
         → (named : List ((ℕ × List ℕ) × List ℕ)) × (pairs_read pairs ≡ Ok named) × AsksSomething pairs
-        × ReportsTold (explain_pairs_asked (Ok st) named) old new (Ok status)
+        × ReportsToldBy (told_in (format_of asked.format)) (explain_pairs_asked (Ok st) named) old new (Ok status)
         × ((users : List Identity) (subtrees : List Names) → users_read (map (λ pair. pair.0) named) ≡ Ok users
         → paths_read (map (λ pair. pair.1) named) ≡ Ok subtrees
         → status ≡ 0 → All (λ pair. IsContained st pair.user pair.subtree) (paired users subtrees)) }
     ensures advise { (advise : Advise) (files : Files) (given old new : Option (List ℕ)) (status : ℕ) (text : List ℕ) (st : State)
         → CarriesOut (request.Advise advise) files given old new (Ok status) → advise.settle ≡ false
         → source files (name_of advise.tree) given ≡ Some text → IsTextOf st text
-        → Reports (advise_report (Ok st) (map ids_of advise.users.items) (map (λ subtree. subtree.now) advise.subtrees.items)) old new (Ok status)
+        → Reports (advise_said advise.format (Ok st) (map ids_of advise.users.items) (map (λ subtree. subtree.now) advise.subtrees.items)) old
+        new (Ok status)
         × (status ≡ 0 → (users : List Identity) (subtrees : List Names) → users_read (map ids_of advise.users.items) ≡ Ok users
         → paths_read (map (λ subtree. subtree.now) advise.subtrees.items) ≡ Ok subtrees → users ≢ [] → AreContained st users subtrees) }
     ensures advise_settled { (advise : Advise) (files : Files) (given old new : Option (List ℕ)) (status : ℕ) (text : List ℕ) (st : State) (users : List Identity) (subtrees : List Names)
         → CarriesOut (request.Advise advise) files given old new (Ok status) → advise.settle ≡ true
         → source files (name_of advise.tree) given ≡ Some text → IsTextOf st text → users_read (map ids_of advise.users.items) ≡ Ok users
         → paths_read (map (λ subtree. subtree.now) advise.subtrees.items) ≡ Ok subtrees → users ≢ []
-        → Reports (advise_settled_report (Ok st) (map ids_of advise.users.items) (map (λ subtree. subtree.now) advise.subtrees.items)) old new (Ok status)
-        × (Reports (advise_report (Ok st) (map ids_of advise.users.items) (map (λ subtree. subtree.now) advise.subtrees.items)) old new (Ok status)
-        ⊎ Reports (record { text = codes "contained\n"; ending = Ok 0 }) old new (Ok status))
+        → Reports (advise_settled_said advise.format (Ok st) (map ids_of advise.users.items) (map (λ subtree. subtree.now) advise.subtrees.items))
+        old new (Ok status)
+        × (Reports (advise_said advise.format (Ok st) (map ids_of advise.users.items) (map (λ subtree. subtree.now) advise.subtrees.items)) old
+        new (Ok status)
+        ⊎ Reports (in_format advise.format (record { text = codes "contained\n"; ending = Ok 0 }) (parts_report None)) old new (Ok status))
         × (status ≡ 0 → AreHeld st users subtrees
         × (AreSettled st (once same_user users) (once same_path subtrees) ⊎ AreContained st users subtrees)) }
     ensures advise_pairs { (asked : Pairs) (files : Files) (given old new : Option (List ℕ)) (status : ℕ) (text pairs : List ℕ) (st : State)
@@ -392,7 +402,7 @@ pub fn the_program()
         → source files (tree_file asked.sources) given ≡ Some text → source files (other_file asked.sources) given ≡ Some pairs
         → IsTextOf st text → length pairs ≤ 16777216
         → (named : List ((ℕ × List ℕ) × List ℕ)) × (pairs_read pairs ≡ Ok named) × AsksSomething pairs
-        × Reports (advise_pairs_report (Ok st) named) old new (Ok status)
+        × Reports (advise_pairs_said asked.format (Ok st) named) old new (Ok status)
         × ((users : List Identity) (subtrees : List Names) → users_read (map (λ pair. pair.0) named) ≡ Ok users
         → paths_read (map (λ pair. pair.1) named) ≡ Ok subtrees
         → status ≡ 0 → AreContainedAsNamed st (paired users subtrees)) }
@@ -403,7 +413,7 @@ pub fn the_program()
     ensures replay { (replay : Replay) (files : Files) (given old new : Option (List ℕ)) (status : ℕ) (text ops : List ℕ) (st : State)
         → CarriesOut (request.Replay replay) files given old new (Ok status)
         → source files (tree_file replay.sources) given ≡ Some text → source files (other_file replay.sources) given ≡ Some ops → IsTextOf st text
-        → Reports (replay_report (vocabulary_in text) (Ok st) replay.user.uid replay.user.gids.items (name_of replay.subtree) ops) old new (Ok status)
+        → Reports (replay_written replay (vocabulary_in text) (Ok st) ops) old new (Ok status)
         × (status ≡ 0 → (user : Identity) (word : List ℕ) (subtree : Names) (tried : List Op)
         → user_of replay.user.uid replay.user.gids.items ≡ Some user → name_of replay.subtree ≡ Some word → path_at word ≡ Some subtree
         → IsSubtree st subtree → HaveLines (vocabulary_in text) tried → ops ≡ op_lines tried → IsHeld st (by_user user tried) subtree) }

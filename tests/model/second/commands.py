@@ -20,18 +20,20 @@ NUMBER = r"0|[1-9][0-9]*"
 PLAIN = "[0-9]+"
 # of each command its options: whether one must be there, and whether it may come again
 OPTIONS = {
-    "may": {"--tree": "", "--uid": "must", "--gid": "again", "--pid": "must", "--to": "must"},
-    "check": {"--tree": "", "--uid": "must", "--gid": "again", "--subtree": "must"},
-    "settle": {"--tree": "", "--uid": "must", "--gid": "again", "--subtree": "must"},
+    "may": {"--tree": "", "--uid": "must", "--gid": "again", "--pid": "must", "--to": "must", "--format": ""},
+    "check": {"--tree": "", "--uid": "must", "--gid": "again", "--subtree": "must", "--format": ""},
+    "settle": {"--tree": "", "--uid": "must", "--gid": "again", "--subtree": "must", "--format": ""},
     "audit": {"--tree": "", "--uid": "again", "--subtree": "again", "--pairs": "", "--all": "flag", "--settle": "flag",
-              "--everybody": "flag", "--subtrees": "", "--but": "again", "--group": "again"},
+              "--everybody": "flag", "--subtrees": "", "--but": "again", "--group": "again", "--format": ""},
     "explain": {"--tree": "", "--uid": "again", "--subtree": "again", "--pairs": "", "--everybody": "flag", "--subtrees": "",
-                "--but": "again", "--group": "again"},
-    "replay": {"--tree": "", "--uid": "must", "--gid": "again", "--ops": "must", "--subtree": ""},
+                "--but": "again", "--group": "again", "--format": ""},
+    "replay": {"--tree": "", "--uid": "must", "--gid": "again", "--ops": "must", "--subtree": "", "--format": ""},
     "upgrade": {"--tree": ""},
     "advise": {"--tree": "", "--uid": "again", "--gid": "again", "--subtree": "again", "--pairs": "",
-               "--settle": "flag", "--everybody": "flag", "--subtrees": "", "--but": "again", "--group": "again"},
+               "--settle": "flag", "--everybody": "flag", "--subtrees": "", "--but": "again", "--group": "again", "--format": ""},
 }
+# what `--format` takes; the first where it is left out
+FORMATS = LINES, JSON = "lines", "json"
 # what says whom `--everybody` means
 OF_EVERYBODY = "--but", "--group"
 # those of one user and one subtree
@@ -188,6 +190,9 @@ class Call:
             given = self.given.get(option, [])
             if "must" in kind and not given or "again" not in kind and len(given) > 1:
                 raise Fault("usage")
+        self.format = self.given.get("--format", [LINES])[0]
+        if self.format not in FORMATS:
+            raise Fault("usage")
         self.users = self.read_users()
         self.asked = everybody.Asked(tuple(map(plain_number, self.given.get("--but", []))),
                                      tuple(map(listed_group, self.given.get("--group", []))))
@@ -277,7 +282,7 @@ class Open:
 
 def respond(words, stdin, files):
     """The lines of standard output, the status and the first line of standard error, or an `Open` in place of the lines, without a
-    status. A tree that is read from what isn't a file is None in `files`, and so is a folder's name, which opens and can't be read,
+    status; lines also where `--format` says otherwise, of which as_json.py has the rest. A tree that is read from what isn't a file is None in `files`, and so is a folder's name, which opens and can't be read,
     with the value False."""
     lines = []
     try:
@@ -395,15 +400,18 @@ def is_said(form, lines, status, is_right):
 def settled_audit(call, state, tops, lines):
     """Against whom a list is found is left to the program, and so whom it lists."""
     users, tops = list(dict.fromkeys(call.users)), list(dict.fromkeys(tops))
-    is_right = is_list_said if "--all" in call.given else is_first_said
-    lines.append(Open(lambda said, status: is_right(state, users, tops, said, status)))
+    if "--all" in call.given:
+        lines.append(Open(lambda said, status: is_list_said(state, users, tops, said, status)))
+    else:
+        lines.append(Open(lambda said, status, gids=False: is_first_said(state, users, tops, said, status, gids)))
 
 
-def is_first_said(state, users, tops, said, status):
+def is_first_said(state, users, tops, said, status, gids):
+    """Whether lines are those of the first pair, which they name by the uid alone, or with its groups."""
     if said == ["contained"]:
         return status == 0 and settled.are_listed(state, users, tops, {})
     pairs = list(itertools.product(users, tops))
-    named = [at for at, (user, top) in enumerate(pairs) if said[:1] == [head_of(user[:1], top)]]
+    named = [at for at, (user, top) in enumerate(pairs) if said[:1] == [head_of(user if gids else user[:1], top)]]
     return is_said(state.form, said[1:], status,
                    lambda answer: any(settled.is_first(state, users, pairs[:at], pairs[at], answer) for at in named))
 

@@ -12,7 +12,7 @@ sys.path.insert(0, os.path.dirname(os.path.dirname(os.path.abspath(__file__))))
 # behind all else: another module there has a name of one here
 sys.path.append(os.path.join(os.path.dirname(os.path.abspath(__file__)), "../../program"))
 import upgrade_bytes
-from second import commands, rules
+from second import as_json, commands, rules
 from trials import cases, directed, format_4, labels, programs, row_tables, rows, spelling, trees, mutants
 
 OLDER = frozenset([*commands.OPTIONS, "audit --all", "advise --pairs", "audit --settle", "advise --settle"])
@@ -58,7 +58,7 @@ class TrialsTest(unittest.TestCase):
     def test_each_wrong_model_differs_by_a_text_that_stands_once(self):
         self.assertGreaterEqual(len(mutants.MUTANTS), 210)
         for name in mutants.MUTANTS:
-            self.assertIsNot(mutants.respond_of(name), commands.respond)
+            self.assertIsNot(mutants.respond_of(name), as_json.respond)
             self.assertIsNone(programs.expected_of(cases.Case(["upgrade"], b"x = 07:32"), mutants.respond_of(name)), name)
 
     def test_trees_are_as_large_as_is_said(self):

@@ -2,7 +2,7 @@
 import random
 from dataclasses import dataclass, field, replace
 
-from second import commands, documents, rules, texts
+from second import as_json, commands, documents, rules, texts
 from second.controllers import controllers_in
 from second.limit_files import MAX, NUMBER_FILES, TEXT_FILES, is_text
 from second.rules import text_of
@@ -13,6 +13,8 @@ TREE, OPS, PAIRS, SUBTREES = "tree.toml", "list.ops", "list.pairs", "list.subtre
 FIRST_HEAVY, ONE_LARGE_OF = 400, 30
 # the last of so many cases is a directed one
 ONE_DIRECTED_OF = 5
+# what a program's help has that writes answers as JSON, and how often that is asked for
+FORMAT, AS_JSON = "--format", 0.2
 
 
 @dataclass
@@ -32,7 +34,7 @@ class Case:
         files = {name: data.encode("latin-1") for name, data in record["files"].items()}
         return Case(record["words"], record["stdin"].encode("latin-1"), files, record["full"])
 
-    def expected(self, respond=commands.respond):
+    def expected(self, respond=as_json.respond):
         """The lines of standard output, the status and the first line of standard error; raises documents.Unsure."""
         lines, status, fault = respond(self.words, self.stdin, {**self.files, "folder": False})
         if self.full and lines and not fault:
@@ -64,7 +66,25 @@ def directed_row(number):
 
 
 def random_case(seed, number, known):
-    """The case of a seed and a number, of the commands that the program has: a directed one where the program has what it asks."""
+    """The case of a seed and a number, of the commands that the program has; at times as JSON where it has that, by a number of its own, so
+    that all other cases are those of a program that doesn't."""
+    case, rng = case_of_lines(seed, number, known), random.Random(f"json {seed} {number}")
+    if FORMAT in known and rng.random() < AS_JSON:
+        give_format(rng, case)
+    return case
+
+
+def give_format(rng, case):
+    """Asks for JSON; at times for lines, for what there isn't, or twice."""
+    word = commands.JSON if rng.random() < 0.9 else rng.choice([commands.LINES, "", "JSON", "jso", "json ", "yaml", "-", "1"])
+    words = rng.choice([[FORMAT, word], [FORMAT, word], [f"{FORMAT}={word}"]])
+    case.words[1:1] = words * (2 if rng.random() < 0.03 else 1)
+    if rng.random() < 0.03:
+        case.words += [FORMAT]
+
+
+def case_of_lines(seed, number, known):
+    """A case that asks for no format: a directed one where the program has what it asks."""
     row = directed_row(number)
     if row is None:
         return drawn_case(seed, number - number // ONE_DIRECTED_OF, known)

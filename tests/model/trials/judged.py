@@ -48,7 +48,7 @@ def some_of(state, asked):
 
 
 def is_contained(written):
-    return written[1] == 0 and written[0].startswith(b"contained\n")
+    return written[1] == 0 and written[0].startswith((b"contained\n", b'{"answer":"contained"'))
 
 
 def chance_of(case):

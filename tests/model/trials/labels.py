@@ -1,10 +1,11 @@
 """What a case shows: its command, answer, guards, clauses and faults, each as a label that is counted."""
+import json
 import re
 
-from second import commands, documents, rules
+from second import as_json, commands, documents, from_json, rules
 from second.controllers import CONTROLLERS
 from second.limit_files import LIMIT_FILES, LONGEST_DEVICE, LONGEST_LINE, LONGEST_VALUE, TEXT_FILES, value_read
-from trials.cases import OPS, TREE, state_of
+from trials.cases import FORMAT, OPS, TREE, state_of
 from trials.format_4 import FORMAT_4, OTHERS
 from trials.limit_files import DEVICE_FILES
 
@@ -94,6 +95,8 @@ def wanted(known):
         labels += [f"explain: {told}" for told in wanted_of_explain()]
     if FORMAT_4 in known:
         labels += [f"format 4: {name}" for name in WIDE]
+    if FORMAT in known:
+        labels += [f"as JSON: {label}" for label in labels if ": status " in label and not label.startswith("upgrade")]
     return labels + [f"fault: {name}" for name in FAULTS]
 
 
@@ -107,9 +110,13 @@ def wanted_of_explain():
 def labels_of(case, expected):
     """The labels of a case with the lines, the status and the fault that it should give."""
     lines, status, fault = expected
+    is_json = as_json.asks_for_json(case.words)
+    if is_json:
+        lines = from_json.lines_of(case.words, map(json.loads, lines))
     name = " ".join(case.words[:1] + [word for word in ("--all", "--pairs", "--settle", "--everybody", "--subtrees") if word in case.words])
     name = name.replace("--everybody --subtrees", "--subtrees")
     found = [f"{name}: status {status}"] if name in STATUSES else []
+    found += [f"as JSON: {label}" for label in found if is_json]
     if fault:
         found.append(re.sub(r"(cgroup|process|line) \d+", r"\1", fault))
     if name == "replay" and OPS in case.files:
@@ -296,8 +303,7 @@ def outcome_of(operation, line):
 
 
 def may_labels(case, lines):
-    to = rules.path_of(next(case.words[at + 1] for at, word in enumerate(case.words) if word == "--to")
-                       if "--to" in case.words else case.words[-1].partition("=")[2])
+    to = rules.path_of(commands.Call(case.words).one("--to"))
     return ["may: " + (lines[0] if lines[0] == "granted" else outcome_of(("move", 0, to or ()), lines[0]))]
 
 

@@ -3,13 +3,16 @@ import functools
 import sys
 import types
 
-from second import commands, controllers, documents, everybody, explained, lasting, limit_files, rules, settled, texts, written
+from second import (as_json, commands, controllers, documents, everybody, explained, from_json, lasting, limit_files, rules, settled, texts,
+                    written)
 from trials import row_tables
+from trials.cases import FORMAT
 from trials.format_4 import FORMAT_4
 
 # in the order in which one takes from another: those before the one that is changed are the right model's own
 MODULES = {"controllers": controllers, "limit_files": limit_files, "documents": documents, "rules": rules, "lasting": lasting, "settled": settled,
-           "explained": explained, "everybody": everybody, "texts": texts, "written": written, "commands": commands}
+           "explained": explained, "everybody": everybody, "texts": texts, "written": written, "commands": commands,
+           "from_json": from_json, "as_json": as_json}
 USERS = "return list(itertools.product(dict.fromkeys(call.users), dict.fromkeys(tops)))"
 MEMBER = 'return "group" if entry.gid in user[1] else "others"'
 LIVE_ITEMS = "for other, process in state.live.items() if other != pid}"
@@ -574,10 +577,65 @@ OF_COMMANDS_FILES_4 = {
     "upgrade writes a file that nothing names": (
         "if rules.is_shown(state, path, name)}", 'if name == "cgroup.freeze" or rules.is_shown(state, path, name)}'),
 }
+ASKED = "return in_json(words, stdin, files) if"
+OF_ENTRIES = 'int(word) if name in NUMBERS or name == "limit" and word != "max" else word'
+OF_JSON = {
+    "JSON has a space between two tokens": ('separators=(",", ":")', 'separators=(", ", ": ")'),
+    "members are in the order in which they are told": ("sort_keys=True, ", ""),
+    "several objects are one list": (
+        ASKED, "return (lambda texts, *ended: ([f\"[{','.join(texts)}]\"] if texts[1:] else texts, *ended))(*in_json(words, stdin, files)) if"),
+    "a fault is an object, too": (
+        ASKED, 'return (lambda texts, status, fault: (texts + [text_of_object({"fault": fault})] * bool(fault), status, fault))'
+               '(*in_json(words, stdin, files)) if'),
+    "JSON ends with status 0": (
+        ASKED, "return (lambda texts, status, fault: (texts, 3 if fault else 0, fault))(*in_json(words, stdin, files)) if"),
+    "lines are written where JSON is asked for": (".format == commands.JSON", ".format == 0"),
+    "JSON is written where lines are asked for": (".format == commands.JSON", '.given.get("--format") is not None'),
+    "a first pair is named by the uid alone": ('return names_first_alone(words) and "--settle" not in words', "return False"),
+    "a pair has no gids where the user has none": (
+        '"gids": [int(gid) for gid in gids.split(",") if gid]', '**({"gids": [int(gid) for gid in gids.split(",")]} if gids else {})'),
+    "the gids of a pair are sorted": ('[int(gid) for gid in gids.split(",") if gid]', '[*sorted(int(gid) for gid in gids.split(",") if gid)]'),
+    "the uid of a pair is a text": ('"uid": int(uid),', '"uid": uid,'),
+    "a pair has no subtree": (', "subtree": subtree}', "}"),
+    "what isn't told of has no object": ("    if not starts:\n        return [answer_of(lines)] if lines else []", "    if not starts:\n        return []"),
+    "an escape without operations has no list": ('if answer == "escapes" else {}', "if lines[1:] else {}"),
+    "an unsettled answer has no path": ('fields(("guard", "path"), rest), **more}', 'fields(("guard",), rest), **more}'),
+    "what is explained has no answer": ('"answer": answer, **fields(("guard", "path"), rest)}', '**fields(("guard", "path"), rest)}'),
+    "what holds isn't explained": ("[guard_of(line) for line in told]", '[guard_of(line) for line in told if line.startswith("fails")]'),
+    "whether a guard holds is a text": ('"holds": word == "holds"', '"holds": word'),
+    "a pid is a text": ('NUMBERS = "pid", ', "NUMBERS = "),
+    "a count is a text": ('"after", "count", "uid"', '"after", "uid"'),
+    "how many operations a verdict is behind is a text": ('"child", "after", ', '"child", '),
+    "a limit is a text": (OF_ENTRIES, OF_ENTRIES.replace(' or name == "limit" and word != "max"', "")),
+    "a limit that isn't one is null": (OF_ENTRIES, f'None if name == "limit" and word == "max" else {OF_ENTRIES}'),
+    "a mode of an entry is a number": (OF_ENTRIES, f'int(word, 8) if name == "mode" else {OF_ENTRIES}'),
+    "a mode of an operation is a number": ('f"{part:03o}" if name == "mode"', 'part if name == "mode"'),
+    "a value that is a number is a text": ('if name == "path" else part', 'if name == "path" else str(part)'),
+    "the changes of a control are one text": ("return [sign + controller for sign, controller in part]",
+                                              'return " ".join(sign + controller for sign, controller in part)'),
+    "an owner is one text": ('members["uid"], members["gid"] = map(int, word.split(":"))', 'members["owner"] = word'),
+    "each class of an entry is an object": ('for name in ("guard", "path", "entry")):', "for name in (True,)) or True:"),
+    "the classes of an entry are one text": ('found[-1]["classes"].append(rest[-1])', 'found[-1]["classes"] = rest[-1]'),
+    "what isn't contained is advised as unsettled": ('{"answer": "fails", "fails": failing(lines)}', '{"answer": "unsettled", "fails": failing(lines)}'),
+    "a refusal's word is the answer": ('{"answer": answer, "refusal": rest[0],', '{"answer": rest[0],'),
+    "of a refusal nothing but its word is told": ("**fields(REFUSALS[rest[0]], rest[1:])}", "}"),
+    "an operation that is done has no object": (
+        "return [step_of(line) for line in lines]", 'return [step_of(line) for line in lines if line != "ok"]'),
+    "of a process that crossed no pid is told": ('("after", "what", "pid")', '("after", "what")'),
+}
+OF_FORMATS = {
+    "--format takes any word": ("if self.format not in FORMATS:", "if False:"),
+    "--format takes words in capitals": ("if self.format not in FORMATS:", "if self.format.lower() not in FORMATS:"),
+    "--format is taken twice": ("and len(given) > 1:", 'and len(given) > (option == "--format") + 1:'),
+    "--format without a word is lines": (
+        '            if value is None or re.match("-.", value):\n', '            if value is None and option == "--format":\n                return\n'
+        '            if value is None or re.match("-.", value):\n'),
+}
 # of each kind the module, and the command without which a program isn't told from what is turned there
 KINDS = [("documents", "may", OF_DOCUMENTS), ("limit_files", "may", OF_LIMIT_FILES), ("rules", "may", OF_RULES), ("lasting", "settle", OF_LASTING),
          ("settled", "audit --settle", OF_SETTLED), ("explained", "explain", OF_EXPLAINED), ("texts", "may", OF_TEXTS),
-         ("commands", "may", OF_COMMANDS), ("commands", "advise --settle", OF_SETTLED_ADVICE), ("commands", "explain", OF_EXPLAIN)]
+         ("commands", "may", OF_COMMANDS), ("commands", "advise --settle", OF_SETTLED_ADVICE), ("commands", "explain", OF_EXPLAIN),
+         ("as_json", FORMAT, OF_JSON), ("commands", FORMAT, OF_FORMATS)]
 KINDS_4 = [("controllers", FORMAT_4, OF_CONTROLLERS_4), ("rules", FORMAT_4, OF_RULES_4), ("texts", FORMAT_4, OF_TEXTS_4),
            ("documents", FORMAT_4, OF_DOCUMENTS_4), ("commands", FORMAT_4, OF_COMMANDS_4), ("lasting", "settle", OF_LASTING_4),
            ("explained", "explain", OF_EXPLAINED_4), ("limit_files", FORMAT_4, OF_LIMIT_FILES_4), ("rules", FORMAT_4, OF_RULES_FILES_4),
@@ -599,6 +657,8 @@ def shows(name, case, wide):
         return False
     if not wide and any(name in turns for _, _, turns in KINDS_4):
         return False
+    if needed == FORMAT:
+        return any(word.startswith(FORMAT) for word in words)
     if needed == "settle":
         return not {"settle", "--settle", "explain"}.isdisjoint(words)
     return needed in ("may", FORMAT_4) or words[:1] == needed.split(" ")[:1] and {*needed.split(" ")} <= {*words}
@@ -618,7 +678,7 @@ def respond_of(name):
             made = made_anew(package, module, *([text, other] if module == changed else []))
         sys.modules[f"{package.__name__}.{module}"] = made
         setattr(package, module, made)
-    return package.commands.respond
+    return package.as_json.respond
 
 
 def made_anew(package, module, text="", other=""):

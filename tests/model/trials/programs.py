@@ -1,5 +1,6 @@
 """Runs a program on cases, and compares what it writes with what it should."""
 import dataclasses
+import json
 import os
 import re
 import shutil
@@ -7,15 +8,16 @@ import signal
 import subprocess
 import tempfile
 
-from second import commands, documents, rules
-from trials import format_4
+from second import as_json, commands, documents, from_json, rules
+from trials import cases, format_4
 
 # what hangs is ended; a run may wait long for a processor, and all of a machine stand still
 SECONDS = 7200
 
 
 def known_commands(program):
-    """The commands that a program lists in its help, those with an option where their help has it, and format 4 where it reads that."""
+    """The commands that a program lists in its help, those with an option where their help has it, that it writes JSON where it has that
+    option, and format 4 where it reads that."""
     lines = help_of(program)
     listed = lines[lines.index("Commands:") + 1:]
     names = {line.split()[0] for line in listed[:listed.index("")]} & commands.OPTIONS.keys()
@@ -24,6 +26,8 @@ def known_commands(program):
                             ("explain", "--everybody")):
         if command in names and any(re.search(rf"{option}\b", line) for line in help_of(program, command)):
             names |= {f"{command} {option}"}
+    if any(re.search(rf"{cases.FORMAT}\b", line) for line in help_of(program, "check")):
+        names |= {cases.FORMAT}
     reads = subprocess.run([program, "upgrade"], input=format_4.TREE, capture_output=True).returncode == 0
     return frozenset(names | {format_4.FORMAT_4} if reads else names)
 
@@ -73,6 +77,8 @@ class Room:
         """What of a case's answer another run says otherwise, or ''."""
         if case.full or written[1] == 3:
             return ""
+        if as_json.asks_for_json(case.words):
+            return self.as_lines_otherwise(case, written)
         if case.words[:1] == ["upgrade"]:
             again = subprocess.run([self.program, "upgrade"], input=written[0], capture_output=True, timeout=SECONDS)
             return "" if again.stdout == written[0] else "the upgrade of what was written is another text"
@@ -84,6 +90,13 @@ class Room:
             return self.told_otherwise(case, written[0], lambda said, alone: said == alone or "escapes" not in (*said[:1], alone[0]))
         every = self.run(dataclasses.replace(case, words=[*case.words, "--all"]))
         return "" if written[1] == 0 or of_first(every[0]) == of_first(written[0]) else "audit --all of the same begins otherwise"
+
+    def as_lines_otherwise(self, case, written):
+        """How the lines of a case differ from what JSON says of it, or ''."""
+        of_lines = self.run(dataclasses.replace(case, words=as_lines(case.words)))
+        lines = from_json.lines_of(case.words, [json.loads(line) for line in written[0].splitlines()])
+        said = "".join(f"{line}\n" for line in lines).encode("ascii"), *written[1:]
+        return "" if of_lines == said else f"as lines it writes {of_lines}"
 
     def told_otherwise(self, case, report, agrees):
         """Which pair of a report has lines, without its first, that don't agree with what settle says of it, or ''."""
@@ -99,7 +112,13 @@ class Room:
         return ""
 
 
-def expected_of(case, respond=commands.respond):
+def as_lines(words):
+    """The words of a right call without those that ask for JSON."""
+    at = next(at for at, word in enumerate(words) if word.partition("=")[0] == cases.FORMAT)
+    return words[:at] + words[at + (1 if "=" in words[at] else 2):]
+
+
+def expected_of(case, respond=as_json.respond):
     """What a case should give, or None where the model doesn't say."""
     try:
         return case.expected(respond)

@@ -14,6 +14,7 @@ GUARDED = "for guard, path, name in rules.guarded(state, top)]"
 OVER_LAST = """return lines + ([f"fails already-over {text_of(top)}"] if rules.over(state, top) else [])"""
 CHOWNED, TAKEN = "entry = replace(entry, uid=0)", 'bits = sum(bit for name, bit in (("group", 0o020), ("others", 0o002)) if name in let_in)'
 TOLD = "rules.class_lines(guard, where, entry, classes_of(entry, asked)) or [held]"
+PREMISES = '{"but": [int(line.split(" ")[1]) for line in lines if line.startswith("but ")],'
 LIVE_PID = "found = [(\"bad-pid\", not 1 <= pid <= rules.LAST_PID)"
 
 
@@ -153,6 +154,20 @@ OF_ROWS = {
         "lines of subtrees", "commands", "        if rules.path_of(word) is None:\n", "        if False:\n"),
     "a last path without its newline counts": (
         "lines of subtrees", "commands", "    words = [line.decode", "    lines, end = lines + [end] * bool(end), b\"\"\n    words = [line.decode"),
+    "a first pair has the status of the worst": (
+        "as JSON", "as_json", "status if answer is None else commands.STATUS[answer], fault", "status, fault"),
+    "who is left out is a text": ("as JSON", "as_json", PREMISES, PREMISES.replace('int(line.split(" ")[1])', 'line.split(" ")[1]')),
+    "that nobody is left out isn't told": (
+        "as JSON", "as_json", PREMISES, PREMISES.replace('{"but"', '{} if not {*"bg"} & {line[0] for line in lines} else {"but"')),
+    "a group has the uids that are listed as texts": (
+        "as JSON", "as_json", '"uids": [int(uid) for uid in uids.split(",") if uid]', '"uids": [uid for uid in uids.split(",") if uid]'),
+    "subtrees against everybody are keys": (
+        "as JSON", "as_json", '{"subtree": path, "fails": failing(below)}', "{path: failing(below)}"),
+    "what is held against everybody is told without an answer": (
+        "as JSON", "as_json", '{"answer": "fails" if subtrees else "contained", "subtrees"', '{**({"answer": "fails"} if subtrees else {}), "subtrees"'),
+    "what is explained against everybody is contained": ("as JSON", "as_json", '"contained" if holds else "fails"', '"contained"'),
+    "of an advice against everybody nothing is told below": (
+        "as JSON", "as_json", 'if line.split(" ")[0] not in ("but", "group")]), **premises_of(lines)}', 'if line.split(" ")[0] not in ("but", "group")])}'),
     "upgrade puts a backslash before each quote": ("written", "written", "if \"'\" not in text:", 'if text == "":'),
 }
 # which of the other mutants are told apart by which table

@@ -1,4 +1,5 @@
 """Rows: whole tables of cases that are made by a script, with nothing drawn, so that each value, owner, bound, name and order is asked."""
+import dataclasses
 import functools
 import itertools
 import json
@@ -10,7 +11,7 @@ from second.limit_files import LIMIT_FILES, LINES, LONGEST_DEVICE, LONGEST_LINE,
 from second.rules import LAST_PID
 from second.texts import LAST_ID
 from trials import directed, spelling
-from trials.cases import OPS, TREE, Case
+from trials.cases import FORMAT, OPS, PAIRS, TREE, Case
 
 USER = ["--uid", "1000", "--gid", "5"]
 # an entry as five have it, by the subtree in which it stands: the user, a group of theirs, everybody, the user by a chmod alone, and root
@@ -362,6 +363,106 @@ def written():
     yield Case(["upgrade", "--tree", TREE], files={TREE: text_of(4, {"/a": {"files": {file: {} for file in TEXT_FILES}}})})
 
 
+# As JSON
+
+JSON_TABLE = "as JSON"
+# of which tables rows are asked as JSON, and each how manieth
+ASKED_AS_JSON = {"memory.max": 2, "cpu.weight": 5, "io.max": 2, "cgroup.freeze": 5, "two tries": 15, "at the root": 3, "theirs": 1, "classes": 2,
+                 "everybody": 5, "left out": 7, "changed and told": 7, "lines of subtrees": 5}
+OF_JSON = [FORMAT, commands.JSON]
+# a name that stands behind backslashes; and a tree of pairs of each answer: the limits of the first subtree are 1000's, /p is 1001's by a group
+# and its enabling 1003's, who owns that of /n too, where nothing is to be enabled, the directory of /r is 1002's, and /e is 1000's to move to,
+# where no process is that they could move
+QUOTED = '/q"\\'
+SEVERAL = {"/": {"enabled": ["memory", "pids"]}, QUOTED: {"files": {"memory.max": {"uid": 1000, "value": MOST}, rules.DEPTH: {"value": 3}}},
+           f"{QUOTED}/b": {"dir": {"uid": 1000}}, "/p": {"files": {rules.PROCS: {"gid": 5, "mode": 0o664}, rules.CONTROL: {"uid": 1003}}},
+           "/p/s": {}, "/r": {"dir": {"uid": 1002}}, "/r/s": {}, "/r/s/a": {}, "/o": {"files": {rules.DESCENDANTS: {"value": 0}}}, "/o/a": {},
+           "/n": {}, "/n/p": {"files": {rules.CONTROL: {"uid": 1003}}}, "/n/p/s": {}, "/e": {"files": {rules.PROCS: {"uid": 1000}}},
+           "/e/s": {"files": {rules.PROCS: {"uid": 1000}}}, "/d": {"files": {rules.DEPTH: {"value": 0}}}, "/d/a": {}, "/g": {"dir": {"uid": 1000}}, "/g/s": {}}
+LIVE = [{"pid": 7, "uid": 1000, "at": QUOTED}, {"pid": 8, "uid": 1001, "at": "/p/s"}, {"pid": 9, "uid": 1002, "at": "/r"}]
+OF_SEVERAL = ["1000", "1001:6,5", "1001:7", "1002", "1003:5"]
+TOPS_OF_SEVERAL = [QUOTED, "/p/s", "/r/s", "/n/p/s", "/e/s", "/o"]
+
+
+def as_json():
+    """Rows of other tables as JSON, beside them pairs, moves and operations, and the words that ask for it."""
+    for name, each in ASKED_AS_JSON.items():
+        for case in itertools.islice(TABLES[name](), 0, None, each):
+            if case.words[0] != "upgrade" and sum(map(len, case.files.values())) < commands.LONGEST_LIST:
+                yield dataclasses.replace(case, words=[case.words[0], *OF_JSON, *case.words[1:]])
+    for table in pairs_as_json, moves_as_json, operations_as_json, words_of_formats:
+        yield from table()
+
+
+def several():
+    return text_of(2, SEVERAL, LIVE)
+
+
+def pairs_as_json():
+    """Of each user and each subtree of a tree, and of all of them, what each command says."""
+    tree = several()
+    for user, top in itertools.product(OF_SEVERAL, TOPS_OF_SEVERAL):
+        uid, _, gids = user.partition(":")
+        one = ["--uid", uid, *(word for gid in gids.split(",") if gid for word in ("--gid", gid)), "--subtree", top]
+        yield from (Case([command, *one, *OF_JSON], tree) for command in ("check", "settle", "advise"))
+        yield from (Case([*words, "--uid", user, "--subtree", top, *OF_JSON], tree) for words in (["audit"], ["audit", "--settle"], ["explain"]))
+    for users in OF_SEVERAL, OF_SEVERAL[::-1], OF_SEVERAL[1:3], OF_SEVERAL[2:0:-1], OF_SEVERAL[3:]:
+        for tops in TOPS_OF_SEVERAL, TOPS_OF_SEVERAL[::-1], TOPS_OF_SEVERAL[1:2], TOPS_OF_SEVERAL[2:4]:
+            words = [*(word for user in users for word in ("--uid", user)), *(word for top in tops for word in ("--subtree", top)), *OF_JSON]
+            yield from (Case([*asked.split(" "), *words], tree) for asked in (
+                "audit", "audit --all", "audit --settle", "audit --settle --all", "explain", "advise", "advise --settle"))
+            pairs = "".join(f"pair {user} {top}\n" for user, top in itertools.product(users, tops)).encode()
+            yield from (Case([command, "--pairs", PAIRS, *OF_JSON], tree, {PAIRS: pairs}) for command in ("audit", "explain", "advise"))
+    for text in b"contained\n", b"", b"pair 1000 /p/s\n", b"pair 1000 /none\n":
+        yield from (Case([command, "--pairs", PAIRS, *OF_JSON], tree, {PAIRS: text}) for command in ("audit", "explain", "advise"))
+
+
+def moves_as_json():
+    """Moves of each process of a tree, and of none, to each cgroup, and to none."""
+    full = text_of(2, {**SEVERAL, "/p": {**SEVERAL["/p"], "enabled": ["memory"]}}, LIVE)
+    for uid, pid, to in itertools.product(("1000", "1001", "1003"), ("7", "8", "99"), (*SEVERAL, "/none", '/"')):
+        yield from (Case(["may", *OF_JSON, "--uid", uid, "--gid", "5", "--pid", pid, "--to", to], tree) for tree in (several(), full))
+
+
+def operations_as_json():
+    """Operations of each kind that are done and refused, with the verdicts on a subtree, and lists that end in a fault."""
+    lines = ["move 7 /a/b", "move 7 /zz", "move 99 /a", "move 7 /", "mkdir /a/x", "mkdir /a/x", "mkdir /zz/y", "control /a +pids", "control /a +io",
+             "control /a/b +memory", "control /a +rdma", "control /a -memory", "move 7 /a", "rmdir /a/b", "rmdir /a/c", "rmdir /", "set /a memory.max 5", "set /a cpu.max 5",
+             "set /a io.max 8:0 rbps=1", "set /a pids.max 18446744073709551615", "fork 7 70", "fork 99 71", "fork 8 72", "fork 7 70", "exit 8", "exit 70", "chmod /a dir 755",
+             "chmod / dir 755", "chmod /a io.max 600", "control / -memory", "mkdir /a/x/1", "mkdir /a/x/1/2", 'mkdir /a/"\\']
+    theirs = {"uid": 1000}
+    files = {file: theirs for file in (rules.PROCS, rules.CONTROL, "memory.max", "pids.max", "io.max")}
+    files |= {rules.DEPTH: {"value": 2}, rules.DESCENDANTS: {"value": 5}}
+    rows = {"/": {"enabled": ["io", "memory", "pids"]}, "/a": {"dir": theirs, "files": files, "enabled": ["io", "memory"]},
+            "/a/b": {"dir": theirs, "files": {file: theirs for file in (rules.PROCS, rules.CONTROL)}, "enabled": ["memory"]},
+            "/a/b/c": {"dir": theirs, "files": {rules.PROCS: theirs}}, "/a/c": {"files": {rules.PROCS: theirs}}}
+    live = [{"pid": 7, "uid": 1000, "at": "/a/c"}, {"pid": 8, "uid": 1001, "at": "/a/c"}]
+    tree = text_of(4, rows, live, ["io", "memory", "pids"])
+    for watched in [], ["--subtree", "/a"], ["--subtree", "/a/c"], ["--subtree", "/zz"]:
+        for some in (lines, lines[:1], [], [*lines, "mkdir"], ["x"]):
+            case = replayed(tree, some, watched)
+            yield dataclasses.replace(case, words=[*case.words, *OF_JSON])
+    for line, watched in (("exit 7", "/p/s"), ("move 8 /p", "/p/s"), ("rmdir /g/s", "/g/s"), ("exit 7", "/d"), ("exit 7", "/o"), (f"set {QUOTED} memory.max max", QUOTED)):
+        case = replayed(several(), [line], ["--subtree", watched])
+        yield dataclasses.replace(case, words=[*case.words, *OF_JSON])
+
+
+def words_of_formats():
+    """The option as it is spelled, and as it may not be, in front of the others and behind them."""
+    asked = [words.split(" ") for words in (
+        "check --uid 1000 --subtree /p/s", "settle --uid 1000 --subtree /p/s", "may --uid 1000 --pid 7 --to /p", "audit --uid 1000 --subtree /p/s",
+        "audit --all --uid 1000 --subtree /p/s", "audit --everybody --subtree /p/s", "advise --uid 1000 --subtree /p/s",
+        "explain --uid 1000 --subtree /p/s", "explain --everybody --subtree /p/s", "replay --uid 1000 --ops none", "upgrade",
+        "check --uid 0 --subtree /p/s", "check --uid 1000 --subtree /", "check --uid 1000 --subtree /zz", "check --tree none --uid 1000 --subtree /p/s")]
+    formats = [[FORMAT, word] for word in (*commands.FORMATS, "", "JSON", "Json", "json ", " json", "jso", "jsonl", "line", "text", "-", "-j", "--", "0", "json,lines")]
+    formats += [[f"{FORMAT}={word}"] for word in (*commands.FORMATS, "", "JSON", "-j", "=json")]
+    formats += [[FORMAT], 2 * OF_JSON, [*OF_JSON, f"{FORMAT}=lines"], ["--form", commands.JSON], ["--formats=json"], ["-f", commands.JSON], [commands.JSON],
+                ["--json"]]
+    for words, some in itertools.product(asked, formats):
+        for spelled in ([words[0], *some, *words[1:]], [*words, *some]):
+            yield Case(spelled, several())
+
+
 def bounds():
     for table in of_texts, of_lines, of_words, of_lengths:
         yield from table()
@@ -369,4 +470,4 @@ def bounds():
 
 TABLES = {**{file: functools.partial(limit_file, file) for file in LIMIT_FILES}, "bounds": bounds, "names": names, "two tries": two_tries,
           "at the root": at_the_root, "theirs": theirs, "classes": classes, "everybody": everybody, "left out": left_out,
-          "changed and told": changed_and_told, "lines of subtrees": lines_of_subtrees, "written": written}
+          "changed and told": changed_and_told, "lines of subtrees": lines_of_subtrees, "written": written, JSON_TABLE: as_json}

@@ -6,6 +6,8 @@ ghost use Rattle.cg_model.specs.Outcomes.{RefusedBy};
 ghost use Rattle.cg_cli.specs.Courses.{Course, HasRoom, state_of, on_course, closing, verdict_status};
 ghost use Rattle.cg_cli.specs.Reports.{Reports};
 
+use crate::format::Format;
+use crate::replay::protocol::verdict_said;
 use crate::report::write_said;
 use cg_cgroup::memory::NoMemory;
 use cg_cgroup::user::User;
@@ -15,7 +17,6 @@ use cg_model::operation::Op;
 use cg_model::outcome::Outcome;
 use cg_model::verdict::Verdict;
 use cg_ops::apply;
-use cg_report::verdict::verdict_text;
 use cg_runs::fault::StepFault;
 use cg_runs::replay::Replay;
 use std::alloc::Global;
@@ -33,19 +34,20 @@ pub trait OnCourse: Drop {
         ensures err { OnErr result (course self.new ≡ course self.old) };
 
     /// What is said at the end, and the status.
-    fn closing(&self, alloc: Global) -> Result<(Vec<u8>, u8), NoMemory>
-        ensures { IfOk result (λ said. closing (course self.now) ≡ record { text = said.0.items; ending = Ok said.1 }) };
+    fn closing(&self, alloc: Global, format: Format) -> Result<(Vec<u8>, u8), NoMemory>
+        ensures { IfOk result (λ said. closing format (course self.now) ≡ record { text = said.0.items; ending = Ok said.1 }) };
 }
 
 /// Writes what is said at the end.
 pub fn write_closing<C: OnCourse, W: Write>(
     alloc: Global,
+    format: Format,
     course: &C,
     out: &mut W,
 ) -> Result<u8, CliFault>
-    ensures { Reports (closing (C.course course.now)) (W.contents out.old) (W.contents out.new) result }
+    ensures { Reports (closing format (C.course course.now)) (W.contents out.old) (W.contents out.new) result }
 {
-    let said = course.closing(alloc)?;
+    let said = course.closing(alloc, format)?;
     write_said(out, said)
 }
 
@@ -73,12 +75,12 @@ impl<H: Hierarchy + Drop> OnCourse for MaybeWatched<H> {
         }
     }
 
-    fn closing(&self, alloc: Global) -> Result<(Vec<u8>, u8), NoMemory> {
+    fn closing(&self, alloc: Global, format: Format) -> Result<(Vec<u8>, u8), NoMemory> {
         match self {
             MaybeWatched::Unwatched(_) => Ok((Vec::new(alloc), 0)),
             MaybeWatched::Watched(run) => {
                 let verdict = run.verdict();
-                Ok((verdict_text(alloc, &verdict)?, status(verdict)))
+                Ok((verdict_said(alloc, format, &verdict)?, status(verdict)))
             }
         }
     }

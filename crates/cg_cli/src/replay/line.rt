@@ -6,11 +6,10 @@ ghost use Rattle.cg_cli.specs.Courses.{HasRoom};
 ghost use Rattle.cg_cli.specs.Replaying.{Answered};
 
 use crate::replay::course::OnCourse;
-use cg_cgroup::files::Vocabulary;
+use crate::replay::protocol::{Protocol, outcome_said};
 use cg_cgroup::user::User;
 use cg_faults::fault::CliFault;
 use cg_lines::lines::read_op_in;
-use cg_lines::outcome::outcome_text;
 use std::alloc::Global;
 use std::io::Write;
 use streams::write::write_whole;
@@ -32,28 +31,27 @@ pub fn line_end(bytes: &[u8]) -> usize
     bytes.len()
 }
 
-/// Carries out the operation of a line behind `done` others, which is without its newline and names controllers of a
-/// vocabulary, and writes the outcome.
+/// Carries out the operation of a line behind `done` others, which is without its newline, and writes the outcome.
 pub fn answer<C: OnCourse, W: Write>(
     alloc: Global,
+    protocol: Protocol,
     course: &mut C,
     user: &User,
-    vocabulary: Vocabulary,
     done: u32,
     line: &[u8],
     out: &mut W,
 ) -> Result<(), CliFault>
     requires few { done < most_operations }
     requires room { HasRoom (C.course course.old) }
-    ensures { Answered (operation_read vocabulary done line.now) (C.course course.old) (C.course course.new) user.now
-        (W.contents out.old) (W.contents out.new) result }
+    ensures { Answered protocol.format (operation_read protocol.vocabulary done line.now) (C.course course.old) (C.course course.new)
+        user.now (W.contents out.old) (W.contents out.new) result }
 {
-    let op = match read_op_in(alloc, vocabulary, line) {
+    let op = match read_op_in(alloc, protocol.vocabulary, line) {
         Ok(op) => op,
         Err(fault) => return Err(CliFault::of_line(done + 1, fault)),
     };
     let outcome = course.step(alloc, user, &op)?;
-    let text = outcome_text(alloc, &op, &outcome)?;
+    let text = outcome_said(alloc, protocol.format, &op, &outcome)?;
     write_whole(out, text.as_slice())?;
     Ok(())
 }

@@ -4,14 +4,16 @@ ghost use Rattle.std.specs.Option.{option_map};
 ghost use Rattle.cg_format.specs.Readings.{OnText, vocabulary_in};
 ghost use Rattle.cg_cli.specs.Arguments.{user_read};
 ghost use Rattle.cg_cli.specs.Courses.{HasMade, came_to};
-ghost use Rattle.cg_cli.specs.Replays.{closed, lines_report};
+ghost use Rattle.cg_cli.specs.ReplayFormats.{in_format};
+ghost use Rattle.cg_cli.specs.Replays.{closed, closed_in, lines_report, operations_report};
 ghost use Rattle.cg_cli.specs.Replaying.{standing_of, from_start, coming, most_taken, whole, IsWaiting, ReplaysFrom, ReadOn};
 
 use super::course_of;
 use crate::arguments::{UserIds, read_user};
+use crate::format::Format;
 use crate::replay::course::{OnCourse, write_closing};
+use crate::replay::protocol::Protocol;
 use crate::replay::run::Run;
-use cg_cgroup::files::Vocabulary;
 use cg_cgroup::user::User;
 use cg_faults::fault::CliFault;
 use std::alloc::Global;
@@ -38,26 +40,46 @@ pub fn replay_from<R: BufRead, W: Write>(
         (R.remaining ops.old) (R.remaining ops.new) (W.contents out.old) (W.contents out.new) result) }
     ensures user { IfErr (user_read user.entry.uid user.entry.gids.now) (λ fault. result ≡ Err fault) }
 {
+    replay_from_in(alloc, Format::Lines, tree, user, subtree, ops, out)
+}
+
+/// The same, written as a format says.
+pub fn replay_from_in<R: BufRead, W: Write>(
+    alloc: Global,
+    format: Format,
+    tree: &[u8],
+    user: UserIds<'_>,
+    subtree: Option<&str>,
+    ops: &mut R,
+    out: &mut W,
+) -> Result<u8, CliFault>
+    ensures replays { OnText tree.now (λ read. ReplaysFrom (closed_in format)
+        (operations_report (in_format format (vocabulary_in tree.now)) read user.entry.uid user.entry.gids.now
+        (option_map (λ text. text.now) subtree.entry))
+        (R.remaining ops.old) (R.remaining ops.new) (W.contents out.old) (W.contents out.new) result) }
+    ensures user { IfErr (user_read user.entry.uid user.entry.gids.now) (λ fault. result ≡ Err fault) }
+{
     let user = read_user(user)?;
     let (vocabulary, course) = course_of(alloc, tree, subtree)?;
-    reader_closed(alloc, vocabulary, course, user, ops, out)
+    let protocol = Protocol { vocabulary, format };
+    reader_closed(alloc, protocol, course, user, ops, out)
 }
 
 /// A whole replay over the bytes of a reader, and what is said at its end.
 fn reader_closed<C: OnCourse, R: BufRead, W: Write>(
     alloc: Global,
-    vocabulary: Vocabulary,
+    protocol: Protocol,
     course: C,
     user: User,
     ops: &mut R,
     out: &mut W,
 ) -> Result<u8, CliFault>
     requires { HasMade 0 (C.course course) }
-    ensures { ReplaysFrom closed (coming (from_start vocabulary (C.course course) user))
+    ensures { ReplaysFrom (closed_in protocol.format) (coming (from_start protocol (C.course course) user))
         (R.remaining ops.old) (R.remaining ops.new) (W.contents out.old) (W.contents out.new) result }
 {
-    let course = replay_reader(alloc, Run::new(alloc, course, user, vocabulary), ops, out)?;
-    write_closing(alloc, &course, out)
+    let course = replay_reader(alloc, Run::new(alloc, protocol, course, user), ops, out)?;
+    write_closing(alloc, protocol.format, &course, out)
 }
 
 /// Goes on with a replay over the bytes of a reader.

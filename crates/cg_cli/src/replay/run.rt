@@ -5,7 +5,7 @@ ghost use Rattle.cg_cli.specs.Replaying.{standing_of, from_start, coming, ending
 
 use crate::replay::course::OnCourse;
 use crate::replay::line::{MOST_OPERATIONS, answer, line_end};
-use cg_cgroup::files::Vocabulary;
+use crate::replay::protocol::Protocol;
 use cg_cgroup::user::User;
 use cg_faults::fault::CliFault;
 use cg_lines::lines::{LONGEST_LINE, LineFault};
@@ -18,8 +18,7 @@ pub struct Run<C> {
     /// What the operations so far have led to.
     course: C,
     user: User,
-    /// Which controllers lines name.
-    vocabulary: Vocabulary,
+    protocol: Protocol,
     /// The bytes of the line that is begun.
     line: Vec<u8>,
     /// How many lines were answered.
@@ -28,13 +27,13 @@ pub struct Run<C> {
 
 impl<C: OnCourse> Run<C> {
     /// The replay before its first byte.
-    pub fn new(alloc: Global, course: C, user: User, vocabulary: Vocabulary) -> Run<C>
-        ensures { standing_of C.course result ≡ from_start vocabulary (C.course course) user }
+    pub fn new(alloc: Global, protocol: Protocol, course: C, user: User) -> Run<C>
+        ensures { standing_of C.course result ≡ from_start protocol (C.course course) user }
     {
         Run {
             course,
             user,
-            vocabulary,
+            protocol,
             line: Vec::new(alloc),
             done: 0,
         }
@@ -70,9 +69,9 @@ impl<C: OnCourse> Run<C> {
         }
         answer(
             alloc,
+            self.protocol,
             &mut self.course,
             &self.user,
-            self.vocabulary,
             self.done,
             self.line.as_slice(),
             out,

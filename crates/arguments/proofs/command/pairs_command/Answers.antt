@@ -16,4 +16,5 @@ returns c =
     let subtree : IsOption (repeated (word_option (codes "subtree"))) c.help-2.result =
     record { rule_is = search rules; local = search rules } in
     let of_subtree = option_added _ _ _ _ _ of_uid subtree c.in_ok-arg-3.ensures in
-    IfOk-weaker c.arg-4.result _ _ (λ new added. option_added _ _ _ _ _ of_subtree c.pairs_argument.ensures added) c.arg-4.ensures
+    let of_pairs = option_added _ _ _ _ _ of_subtree c.pairs_argument.ensures c.in_ok-arg-4.ensures in
+    IfOk-weaker c.arg-5.result _ _ (λ new added. option_added _ _ _ _ _ of_pairs c.format_argument.ensures added) c.arg-5.ensures

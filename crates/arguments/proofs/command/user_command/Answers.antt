@@ -13,4 +13,5 @@ returns c =
     let of_uid = option_added _ _ _ _ _ of_tree c.needed_number.ensures c.in_ok-arg-2.ensures in
     let gid : IsOption (repeated (number_option (codes "gid"))) c.help.result =
     record { rule_is = search rules; local = search rules } in
-    IfOk-weaker c.arg-3.result _ _ (λ new added. option_added _ _ _ _ _ of_uid gid added) c.arg-3.ensures
+    let of_gid = option_added _ _ _ _ _ of_uid gid c.in_ok-arg-3.ensures in
+    IfOk-weaker c.arg-4.result _ _ (λ new added. option_added _ _ _ _ _ of_gid c.format_argument.ensures added) c.arg-4.ensures

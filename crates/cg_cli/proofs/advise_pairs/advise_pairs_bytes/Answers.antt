@@ -1,4 +1,5 @@
 use Rattle.std.proofs.Common.{map}
+use Rattle.cg_cli.specs.Advising.{AdvisesNamed}
 use Rattle.cg_cli.specs.Pairs.{pair_given}
 use Rattle.cg_cli.proofs.NamedPairs.{advised_said, contained_said}
 use Rattle.cg_cli.proofs.advise_pairs.advise_pairs_bytes.Goals as goal
@@ -14,6 +15,6 @@ returns-clause-report g c =
 
 pub returns-clause-contained : goal.returns-clause-contained
 returns-clause-contained g c =
-    contained_said c.args.tree.now (map (λ pair. (pair_given pair).0) c.args.pairs.now)
-    (map (λ pair. (pair_given pair).1) c.args.pairs.now)
+    contained_said AdvisesNamed (λ st users subtrees old new result said. said.1) c.args.tree.now
+    (map (λ pair. (pair_given pair).0) c.args.pairs.now) (map (λ pair. (pair_given pair).1) c.args.pairs.now)
     (g.W.Write.contents c.args.out.now) (g.W.Write.contents c.ask_pairs.new.out) c.ask_pairs.result c.ask_pairs.ensures

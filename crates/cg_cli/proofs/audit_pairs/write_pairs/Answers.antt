@@ -21,17 +21,17 @@ returns-in_err-write_pair g c =
     let far =
     pair_next (g.H.Hierarchy.state c.args.tree.now) c.args.pairs.now c.loop-pair.pair-index _ _ _ _ c.loop-pair.invariant
     c.pair-item.result c.loop-pair-test.true c.pair-item.is in
-    rw (p.1, p.2) (stops _ _ _ _ _ _ _ far c.in_err-write_pair.field-0.0 c.in_err-write_pair.ensures)
+    rw (p.1, p.2) (stops _ _ _ _ _ _ _ _ far c.in_err-write_pair.field-0.0 c.in_err-write_pair.ensures)
 
 pub loop-pair-preserved : goal.loop-pair-preserved
 loop-pair-preserved g c =
     let far =
     pair_next (g.H.Hierarchy.state c.args.tree.now) c.args.pairs.now c.loop-pair.pair-index _ _ _ _ c.loop-pair.invariant
     c.pair-item.result c.loop-pair-test.true c.pair-item.is in
-    subst (Front _ _ _ _) (sym c.worse-worst.ensures) (goes_on _ _ _ _ _ _ _ far c.in_ok-write_pair.field-0 c.in_ok-write_pair.ensures)
+    subst (Front _ _ _ _ _) (sym c.worse-worst.ensures) (goes_on _ _ _ _ _ _ _ _ far c.in_ok-write_pair.field-0 c.in_ok-write_pair.ensures)
 
 pub returns : goal.returns
 returns g c =
-    ends _ _ _ _ _
+    ends _ _ _ _ _ _
     (none_left (g.H.Hierarchy.state c.args.tree.now) c.args.pairs.now c.loop-pair.pair-index _ _ _ _ c.loop-pair.invariant
     (omega (arith, c.loop-pair-test.false))) c.loop-pair.invariant

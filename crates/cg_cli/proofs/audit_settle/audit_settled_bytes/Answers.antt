@@ -1,5 +1,5 @@
-use Rattle.std.proofs.Common.{map}
-use Rattle.cg_cli.specs.FurtherPairs.{ReportsFirst}
+use Rattle.std.proofs.Common.{map, refl}
+use Rattle.cg_cli.specs.FurtherPairs.{first_pair_report, ReportsFirst}
 use Rattle.cg_cli.proofs.FurtherPairs.{further_on}
 use Rattle.cg_cli.proofs.SettledPairs.{first_said}
 use Rattle.cg_cli.proofs.audit_settle.audit_settled_bytes.Goals as goal
@@ -9,7 +9,7 @@ returns-clause-report g c =
     let asked = c.ask_named.ensures.report in (
       asked.0,
       asked.1,
-      first_said asked.0 (map (λ user. (user.uid, user.gids.now)) c.args.users.now)
+      first_said first_pair_report (λ pairs. refl) asked.0 (map (λ user. (user.uid, user.gids.now)) c.args.users.now)
           (map (λ subtree. subtree.now) c.args.subtrees.now)
           (g.W.Write.contents c.args.out.now) (g.W.Write.contents c.ask_named.new.out) c.ask_named.result asked.2,
     )

@@ -23,7 +23,7 @@ returns-in_err-write_pair g c =
     let far =
     row_next c.args.user.now c.args.subtrees.now c.args.row.now c.loop-found.found-index c.found-item.result
     c.index-subtrees-found.result _ _ _ _ c.loop-found-test.true c.found-item.is within c.index-subtrees-found.is c.loop-found.invariant in
-    rw (p.1, p.2) (stops _ _ _ _ _ _ _ far c.in_err-write_pair.field-0.0 c.in_err-write_pair.ensures)
+    rw (p.1, p.2) (stops _ _ _ _ _ _ _ _ far c.in_err-write_pair.field-0.0 c.in_err-write_pair.ensures)
 
 pub loop-found-preserved : goal.loop-found-preserved
 loop-found-preserved g c =
@@ -33,4 +33,4 @@ loop-found-preserved g c =
     let far =
     row_next c.args.user.now c.args.subtrees.now c.args.row.now c.loop-found.found-index c.found-item.result
     c.index-subtrees-found.result _ _ _ _ c.loop-found-test.true c.found-item.is within c.index-subtrees-found.is c.loop-found.invariant in
-    subst (Front _ _ _ _) (sym c.worse-worst.ensures) (goes_on _ _ _ _ _ _ _ far c.in_ok-write_pair.field-0 c.in_ok-write_pair.ensures)
+    subst (Front _ _ _ _ _) (sym c.worse-worst.ensures) (goes_on _ _ _ _ _ _ _ _ far c.in_ok-write_pair.field-0 c.in_ok-write_pair.ensures)

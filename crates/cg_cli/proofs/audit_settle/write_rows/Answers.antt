@@ -23,7 +23,7 @@ returns-in_err-write_row g c =
     c.loop-place-test.true c.requires.all c.index-users-place.is
     (subst (λ (row : List Found). row ≡ get_or c.args.rows.now c.loop-place.place row) (sym c.as_slice.ensures) c.index-rows-place.is)
     c.loop-place.invariant in
-    rw (p.1, p.2) (stops _ _ _ _ _ _ _ far c.in_err-write_row.field-0.0 c.in_err-write_row.ensures)
+    rw (p.1, p.2) (stops _ _ _ _ _ _ _ _ far c.in_err-write_row.field-0.0 c.in_err-write_row.ensures)
 
 pub loop-place-preserved : goal.loop-place-preserved
 loop-place-preserved g c =
@@ -33,4 +33,4 @@ loop-place-preserved g c =
     c.loop-place-test.true c.requires.all c.index-users-place.is
     (subst (λ (row : List Found). row ≡ get_or c.args.rows.now c.loop-place.place row) (sym c.as_slice.ensures) c.index-rows-place.is)
     c.loop-place.invariant in
-    subst (Front _ _ _ _) (sym c.worse-worst.ensures) (goes_on _ _ _ _ _ _ _ far c.in_ok-write_row.field-0 c.in_ok-write_row.ensures)
+    subst (Front _ _ _ _ _) (sym c.worse-worst.ensures) (goes_on _ _ _ _ _ _ _ _ far c.in_ok-write_row.field-0 c.in_ok-write_row.ensures)

@@ -4,6 +4,7 @@ use Rattle.std.proofs.KnownBytes.{Keeps-refl}
 use Rattle.std.proofs.lemmas.Result.{err_from_is_err_and}
 use Rattle.streams.specs.Written.{AppendsPart}
 use Rattle.cg_advice.specs.Ways.{pair_of}
+use Rattle.cg_cli.specs.Formats.{told_in}
 use Rattle.cg_cli.proofs.SettleReports.{settled_is_shown}
 use Rattle.cg_cli.proofs.Explaining.{settle_wants}
 use Rattle.cg_cli.proofs.explain.write_pair.Goals as goal
@@ -12,11 +13,11 @@ pub returns-in_err-answer : goal.returns-in_err-answer
 returns-in_err-answer g c =
     let p = err_from_is_err_and c.from_residual.result c.from_residual.ensures.1 in
     rw (p.1, p.2)
-    (settle_wants (g.H.Hierarchy.state c.args.tree.now) (pair_of c.args.pair.now) c.requires.there c.in_err-answer.field-0.0
-    c.in_err-answer.ensures.fault (g.W.Write.contents c.args.out.now))
+    (settle_wants (told_in c.args.format) (g.H.Hierarchy.state c.args.tree.now) (pair_of c.args.pair.now) c.requires.there
+    c.in_err-answer.field-0.0 c.in_err-answer.ensures.fault (g.W.Write.contents c.args.out.now))
 
-pub pair_lines-requires : goal.pair_lines-requires
-pair_lines-requires g c = record {
+pub told-requires : goal.told-requires
+told-requires g c = record {
   formed = c.requires.formed;
   subtree = c.requires.there;
   answer =

@@ -3,7 +3,8 @@ use Rattle.std.proofs.lemmas.Result.{err_from_is_err_and}
 use Rattle.cg_model.specs.Mends.{Pair}
 use Rattle.cg_advice.specs.Ways.{pair_of}
 use Rattle.cg_cli.specs.Advising.{all_pairs}
-use Rattle.cg_cli.specs.Explaining.{TellsPairs}
+use Rattle.cg_cli.specs.Explaining.{TellsPairsBy}
+use Rattle.cg_cli.specs.Formats.{told_in}
 use Rattle.cg_cli.proofs.AdviseReports.{pairs_there}
 use Rattle.cg_cli.proofs.Explaining.{pairs_said, none_told, some_subtree}
 use Rattle.cg_cli.proofs.explain.write_told.Goals as goal
@@ -14,8 +15,9 @@ returns-in_err-pairs g c =
     let st = g.H.Hierarchy.state c.args.tree.now in
     let known = g.W.Write.contents c.args.out.now in
     rw (p.1, p.2)
-    (pairs_said st c.args.subtrees.now (all_pairs c.args.users.now c.args.subtrees.now) c.in_default.ensures.fault known known _
-    (none_told st (all_pairs c.args.users.now c.args.subtrees.now) known))
+    (pairs_said (told_in c.args.format) st c.args.subtrees.now (all_pairs c.args.users.now c.args.subtrees.now)
+    c.in_default.ensures.fault known known _
+    (none_told (told_in c.args.format) st (all_pairs c.args.users.now c.args.subtrees.now) known))
 
 pub write_pairs-requires : goal.write_pairs-requires
 write_pairs-requires g c =
@@ -30,7 +32,7 @@ returns g c =
     let st = g.H.Hierarchy.state c.args.tree.now in
     let old = g.W.Write.contents c.args.out.now in
     let new = g.W.Write.contents c.write_pairs.new.out in
-    pairs_said st c.args.subtrees.now (all_pairs c.args.users.now c.args.subtrees.now) c.in_default.ensures.fault old new
-    c.write_pairs.result
-    (subst (λ (l : List Pair). TellsPairs st l old new c.write_pairs.result)
+    pairs_said (told_in c.args.format) st c.args.subtrees.now (all_pairs c.args.users.now c.args.subtrees.now)
+    c.in_default.ensures.fault old new c.write_pairs.result
+    (subst (λ (l : List Pair). TellsPairsBy (told_in c.args.format) st l old new c.write_pairs.result)
     (ap (map pair_of) c.as_slice.ensures.value ∙ c.in_ok-pairs.ensures) c.write_pairs.ensures)

@@ -1,3 +1,4 @@
+use Rattle.cg_explain.specs.PairExplained.{pair_lines}
 use Rattle.cg_cli.proofs.EachPair.{explain_said}
 use Rattle.cg_cli.proofs.explain_pairs.explain_pairs_bytes.Goals as goal
 
@@ -6,6 +7,6 @@ returns g c =
     let asked = c.ask_pairs.ensures in (
       asked.0,
       asked.1,
-      explain_said asked.0 c.args.pairs.now (g.W.Write.contents c.args.out.now) (g.W.Write.contents c.ask_pairs.new.out)
+      explain_said pair_lines asked.0 c.args.pairs.now (g.W.Write.contents c.args.out.now) (g.W.Write.contents c.ask_pairs.new.out)
           c.ask_pairs.result asked.2,
     )

@@ -8,11 +8,13 @@ replay_slice-requires g c = begun_waits c.new.ensures c.requires
 
 pub returns-in_err-course : goal.returns-in_err-course
 returns-in_err-course g c =
-    close_fault (ap coming c.new.ensures) c.args.ops.now (g.W.Write.contents c.args.out.now) (g.W.Write.contents c.replay_slice.new.out)
+    close_fault c.args.protocol.format (ap coming c.new.ensures) c.args.ops.now (g.W.Write.contents c.args.out.now)
+    (g.W.Write.contents c.replay_slice.new.out)
     c.in_err-course.field-0.0 c.in_err-course.ensures c.from_residual.result c.from_residual.ensures.1
 
 pub returns : goal.returns
 returns g c =
-    close_said (ap coming c.new.ensures) c.args.ops.now (g.W.Write.contents c.args.out.now) (g.W.Write.contents c.replay_slice.new.out)
+    close_said c.args.protocol.format (ap coming c.new.ensures) c.args.ops.now (g.W.Write.contents c.args.out.now)
+    (g.W.Write.contents c.replay_slice.new.out)
     (g.C.OnCourse.course c.in_ok-course.course) c.in_ok-course.ensures (g.W.Write.contents c.write_closing.new.out)
     c.write_closing.result c.write_closing.ensures

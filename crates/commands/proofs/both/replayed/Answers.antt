@@ -26,5 +26,6 @@ returns g c =
     let before =
     remaining-fresh c.in-Ok.ops _ (λ kept. g.O.Read.remaining kept.inner.inner) c.in-Ok.ensures.inner c.in-Ok.ensures.empty
     c.in-Ok.ensures.capacity in
-    let said = rw (c.ids-replayer.ensures.uid, c.ids-replayer.ensures.gids) at c.replay_from-ended.ensures.replays in
+    let said =
+    rw (c.ids-replayer.ensures.uid, c.ids-replayer.ensures.gids, c.format_of-format.ensures) at c.replay_from_in-ended.ensures.replays in
     (said.0, said.1, inl (_, rw before at said.2))

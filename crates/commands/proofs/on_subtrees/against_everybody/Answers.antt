@@ -1,9 +1,10 @@
 use Rattle.std.proofs.Common.{◌≡◌, ◌∙◌, ap, map, subst, inl, inr}
 use Rattle.machine_everybody.specs.Everybody.{Everybody}
 use Rattle.cg_everybody.specs.Everybody.{members_of}
-use Rattle.cg_cli.specs.Everybody.{everybody_report}
+use Rattle.cg_cli.specs.Everybody.{everybody_report_in}
 use Rattle.cg_cli.specs.Reports.{Reports}
 use Rattle.cg_cli.specs.declared.everybody.Wanted.{Wanted}
+use Rattle.cg_cli.specs.declared.format.Format.{Format}
 use Rattle.arguments.specs.Given.{listed_group}
 use Rattle.commands.proofs.RequestLaws.{unread_by}
 use Rattle.commands.proofs.on_subtrees.against_everybody.Goals as goal
@@ -19,12 +20,12 @@ pub returns : goal.returns
 returns g c =
     let groups : map members_of c.as_slice-3.result.now ≡ map listed_group c.args.everyone.now.groups.items =
     ap (map members_of) c.as_slice-3.ensures.value ∙ c.in_ok-groups.ensures.members ∙ ap (map listed_group) c.as_slice.ensures.value in
-    let said = c.everybody_bytes.ensures in inl (
+    let said = c.everybody_bytes_in.ensures in inl (
       said.0,
       said.1,
-      subst (λ (both : Wanted × Everybody).
-          Reports (everybody_report both.0 both.1 said.0 (map (λ subtree. subtree.now) c.args.subtrees.now))
-          (g.W.Write.contents c.args.out.now) (g.W.Write.contents c.everybody_bytes.new.out) c.everybody_bytes.result)
+      subst (λ (all : Format × Wanted × Everybody).
+          Reports (everybody_report_in all.0 all.1 all.2 said.0 (map (λ subtree. subtree.now) c.args.subtrees.now))
+          (g.W.Write.contents c.args.out.now) (g.W.Write.contents c.everybody_bytes_in.new.out) c.everybody_bytes_in.result)
           (λ i. let it : Everybody = record { but = c.as_slice-2.ensures.value i; groups = groups i } in
-          (c.wanted_of-wanted.ensures i, it)) said.2,
+          (c.format_of-format.ensures i, c.wanted_of-wanted.ensures i, it)) said.2,
     )

@@ -13,7 +13,7 @@ returns-clause-noted g c =
 
 pub returns-clause-answer : goal.returns-clause-answer
 returns-clause-answer g c =
-    both_answered subtrees_read (EverybodyOn (wanted_of c.args.asked.now.wanted) (whom c.args.asked.now.everyone))
+    both_answered subtrees_read (EverybodyOn c.args.asked.now.format (wanted_of c.args.asked.now.wanted) (whom c.args.asked.now.everyone))
     c.in_ok-texts.texts.tree.items c.in_ok-texts.texts.other.items _ _ _ _ (g.W.Write.contents c.args.out.now)
     (g.W.Write.contents c.answered.new.out) c.answered.result
     c.in_ok-texts.ensures.tree c.in_ok-texts.ensures.other c.as_slice-2.ensures.value c.as_slice-3.ensures.value c.answered.ensures

@@ -7,6 +7,7 @@ use Rattle.cg_guards.specs.Reach.{AreCovered}
 use Rattle.cg_guards.specs.declared.identities.Identities.{Identities}
 use Rattle.cg_guards.proofs.OutOfReach.{drop_covered}
 use Rattle.cg_check.proofs.ListedLaws.{listed_past}
+use Rattle.cg_cli.specs.Formats.{listing_in}
 use Rattle.cg_cli.proofs.AllPairs.{begins, goes_on, stops, passes_on, user_next, wants}
 use Rattle.cg_cli.proofs.audit_all.Listing.write_pairs.Goals as goal
 
@@ -19,7 +20,7 @@ others_covered identities left covered =
 pub users-init : goal.users-init
 users-init g c = record {
   front =
-      begins (listed (g.H.Hierarchy.state c.args.self.now.tree.now) c.args.users.now c.args.self.now.subtrees.now)
+      begins _ (listed (g.H.Hierarchy.state c.args.self.now.tree.now) c.args.users.now c.args.self.now.subtrees.now)
       (listed (g.H.Hierarchy.state c.args.self.now.tree.now) c.from_first_unguarded-left.result.now c.args.self.now.subtrees.now)
       (g.W.Write.contents c.args.out.now)
       (listed_past (g.H.Hierarchy.state c.args.self.now.tree.now) c.args.self.now.subtrees.now c.args.users.now
@@ -33,8 +34,8 @@ pub returns-in_err-identities : goal.returns-in_err-identities
 returns-in_err-identities g c =
     let p = err_from_is_err_and c.from_residual.result c.from_residual.ensures.1 in
     rw (p.1, p.2)
-    (wants (listed (g.H.Hierarchy.state c.args.self.now.tree.now) c.args.users.now c.args.self.now.subtrees.now)
-    (g.W.Write.contents c.args.out.now))
+    (wants (listing_in c.args.self.now.format) (listed (g.H.Hierarchy.state c.args.self.now.tree.now) c.args.users.now
+    c.args.self.now.subtrees.now) (g.W.Write.contents c.args.out.now))
 
 pub from_first_unguarded-left-requires-in-len1-up-clause-covered : goal.from_first_unguarded-left-requires-in-len1-up-clause-covered
 from_first_unguarded-left-requires-in-len1-up-clause-covered g c =
@@ -45,11 +46,12 @@ returns-in_err-write_user g c =
     let p = err_from_is_err_and c.from_residual-in_err-write_user.result c.from_residual-in_err-write_user.ensures.1 in
     let st = g.H.Hierarchy.state c.args.self.now.tree.now in
     let far =
-    user_next st c.args.self.now.subtrees.now c.users.left.now c.user-item.result (listed st c.args.users.now c.args.self.now.subtrees.now)
+    user_next _ st c.args.self.now.subtrees.now c.users.left.now c.user-item.result
+    (listed st c.args.users.now c.args.self.now.subtrees.now)
     (g.W.Write.contents c.args.out.now) (g.W.Write.contents c.users.out) c.users.worst c.in-len1-up.len_at_least c.user-item.is
     c.users.invariant.front in
     rw (p.1, p.2)
-    (stops (listed st c.args.users.now c.args.self.now.subtrees.now) (listed_of st c.args.self.now.subtrees.now c.user-item.result)
+    (stops _ (listed st c.args.users.now c.args.self.now.subtrees.now) (listed_of st c.args.self.now.subtrees.now c.user-item.result)
     (listed st (drop 1 c.users.left.now) c.args.self.now.subtrees.now)
     (g.W.Write.contents c.args.out.now) (g.W.Write.contents c.users.out) (g.W.Write.contents c.write_user.new.out) c.users.worst far
     c.in_err-write_user.field-0.0 c.in_err-write_user.ensures)
@@ -58,12 +60,13 @@ pub users-preserved : goal.users-preserved
 users-preserved g c =
     let st = g.H.Hierarchy.state c.args.self.now.tree.now in
     let far =
-    user_next st c.args.self.now.subtrees.now c.users.left.now c.user-item.result (listed st c.args.users.now c.args.self.now.subtrees.now)
+    user_next _ st c.args.self.now.subtrees.now c.users.left.now c.user-item.result
+    (listed st c.args.users.now c.args.self.now.subtrees.now)
     (g.W.Write.contents c.args.out.now) (g.W.Write.contents c.users.out) c.users.worst c.in-len1-up.len_at_least c.user-item.is
     c.users.invariant.front in
     record {
       front =
-          passes_on (listed st c.args.users.now c.args.self.now.subtrees.now)
+          passes_on _ (listed st c.args.users.now c.args.self.now.subtrees.now)
           (listed st (drop 1 c.users.left.now) c.args.self.now.subtrees.now)
           (listed st c.from_first_unguarded-left-in-len1-up.result.now c.args.self.now.subtrees.now)
           (g.W.Write.contents c.args.out.now) (g.W.Write.contents c.write_user.new.out) _ c.worse-worst.result
@@ -71,7 +74,8 @@ users-preserved g c =
           c.from_first_unguarded-left-in-len1-up.result.now c.from_first_unguarded-left-in-len1-up.ensures
           ∙ ap (λ rest. listed st rest c.args.self.now.subtrees.now) (take_rest c.users.left.now 1))
           c.worse-worst.ensures
-          (goes_on (listed st c.args.users.now c.args.self.now.subtrees.now) (listed_of st c.args.self.now.subtrees.now c.user-item.result)
+          (goes_on _ (listed st c.args.users.now c.args.self.now.subtrees.now)
+          (listed_of st c.args.self.now.subtrees.now c.user-item.result)
           (listed st (drop 1 c.users.left.now) c.args.self.now.subtrees.now)
           (g.W.Write.contents c.args.out.now) (g.W.Write.contents c.users.out) (g.W.Write.contents c.write_user.new.out) c.users.worst far
           c.in_ok-write_user.field-0 c.in_ok-write_user.ensures);

@@ -1,6 +1,7 @@
 use Rattle.std.proofs.Common.{length, Some}
 use Rattle.cg_model.specs.Listed.{listed}
 use Rattle.cg_guards.specs.Reach.{AreCovered}
+use Rattle.cg_cli.specs.Formats.{listing_in}
 use Rattle.cg_cli.proofs.AllPairs.{Front}
 use Rattle.cg_cli.proofs.audit_all.Listing.write_pairs.Given as goal
 
@@ -8,7 +9,7 @@ use Rattle.cg_cli.proofs.audit_all.Listing.write_pairs.Given as goal
 abbrev pub invariant-users : goal.invariant-users
 invariant-users g l = record {
   front :
-      Front (listed (g.H.Hierarchy.state l.self.tree.now) l.fn.users l.self.subtrees.now)
+      Front (listing_in l.self.format) (listed (g.H.Hierarchy.state l.self.tree.now) l.fn.users l.self.subtrees.now)
       (listed (g.H.Hierarchy.state l.self.tree.now) l.left l.self.subtrees.now)
       (g.W.Write.contents l.initial.out) (g.W.Write.contents l.out) l.worst;
   covered : AreCovered (Some l.identities) l.left;

@@ -2,8 +2,9 @@ use Rattle.std.proofs.Common.{List, Ok, refl, ap, sym, ◌∙◌, map, subst}
 use Rattle.cg_model.specs.Mends.{Pair}
 use Rattle.cg_advice.specs.Ways.{pair_of}
 use Rattle.cg_cli.specs.Advising.{paired}
-use Rattle.cg_cli.specs.AllPairs.{ReportsPairs}
+use Rattle.cg_cli.specs.AllPairs.{ReportsPairsBy}
 use Rattle.cg_cli.specs.EachPair.{pairs_listed}
+use Rattle.cg_cli.specs.Formats.{listing_in}
 use Rattle.cg_cli.proofs.AllPairs.{by_pairs}
 use Rattle.cg_cli.proofs.EachPair.{unlisted-as-named, each_status}
 use Rattle.cg_cli.proofs.NamedPairs.{paired_there}
@@ -23,8 +24,10 @@ returns g c =
     let subtrees = c.args.subtrees.now in
     let old = g.W.Write.contents c.args.out.now in
     let new = g.W.Write.contents c.write_listing.new.out in (
-      by_pairs st subtrees (pairs_listed st (paired users subtrees)) c.in_default.ensures.fault old new c.write_listing.result
-          (subst (λ (l : List Pair). ReportsPairs (Ok (pairs_listed st l)) old new c.write_listing.result)
+      by_pairs (listing_in c.args.self.now.format) st subtrees (pairs_listed st (paired users subtrees)) c.in_default.ensures.fault old
+          new c.write_listing.result
+          (subst (λ (l : List Pair). ReportsPairsBy (listing_in c.args.self.now.format) (Ok (pairs_listed st l)) old new
+          c.write_listing.result)
           (ap (map pair_of) c.as_slice.ensures.value ∙ c.in_ok-pairs.ensures) c.write_listing.ensures),
       each_status c.write_listing.result
           (unlisted-as-named st users subtrees (sym c.in_default.ensures.fault) (c.in_default.ensures.formed refl)),

@@ -11,8 +11,8 @@ pub returns-in_err-said : goal.returns-in_err-said
 returns-in_err-said g c =
     let course = g.C.OnCourse.course c.args.course.now in
     let known = g.W.Write.contents c.args.out.now in
-    handed_on (Reports (closing course) known known) NoMemory c.from_residual.result c.from_residual.ensures.1
-    (closing_takes course, Keeps-refl known)
+    handed_on (Reports (closing c.args.format course) known known) NoMemory c.from_residual.result c.from_residual.ensures.1
+    (closing_takes c.args.format course, Keeps-refl known)
 
 pub returns : goal.returns
 returns g c =

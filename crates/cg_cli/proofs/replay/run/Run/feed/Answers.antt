@@ -33,7 +33,7 @@ returns-in_err-answer-clause-fed g c =
     c.as_slice.result.now (grind (arith, common_steps)) c.requires.waiting.one_line c.line_end-end.ensures.before
     (omega arith) c.line_end-end.ensures.newline now (g.W.Write.contents c.args.out.now) (g.W.Write.contents c.answer.new.out)
     (coming (record {
-      vocabulary = self.vocabulary;
+      protocol = self.protocol;
       course = now;
       user = self.user;
       line = c.extend_from_slice.new.self.items;

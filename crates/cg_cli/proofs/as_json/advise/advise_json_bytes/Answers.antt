@@ -1,0 +1,24 @@
+use Rattle.std.proofs.Common.{map}
+use Rattle.cg_cli.specs.Advising.{all_pairs}
+use Rattle.cg_cli.specs.AsJson.{advice_json_report, AdvisesAsJson}
+use Rattle.cg_cli.proofs.AsJson.{advice_takes, once_said}
+use Rattle.cg_cli.proofs.AuditReports.{means_contained}
+use Rattle.cg_cli.proofs.as_json.advise.advise_json_bytes.Goals as goal
+
+pub returns-clause-report : goal.returns-clause-report
+returns-clause-report g c =
+    let asked = c.ask_named.ensures.report in (
+      asked.0,
+      asked.1,
+      once_said (λ st users subtrees. advice_json_report st subtrees (all_pairs users subtrees))
+          (λ st users subtrees. advice_takes st subtrees (all_pairs users subtrees)) AdvisesAsJson
+          (λ st users subtrees old new result said. said.0) asked.0
+          (map (λ user. (user.uid, user.gids.now)) c.args.users.now) (map (λ subtree. subtree.now) c.args.subtrees.now)
+          (g.W.Write.contents c.args.out.now) (g.W.Write.contents c.ask_named.new.out) c.ask_named.result asked.2,
+    )
+
+pub returns-clause-contained : goal.returns-clause-contained
+returns-clause-contained g c =
+    means_contained AdvisesAsJson (λ st users subtrees old new result said. said.1) c.args.tree.now
+    (map (λ user. (user.uid, user.gids.now)) c.args.users.now) (map (λ subtree. subtree.now) c.args.subtrees.now)
+    (g.W.Write.contents c.args.out.now) (g.W.Write.contents c.ask_named.new.out) c.ask_named.result c.ask_named.ensures.report

@@ -1,0 +1,20 @@
+use Rattle.std.proofs.Common.{map}
+use Rattle.cg_cli.specs.Formats.{in_json}
+use Rattle.cg_cli.proofs.AllPairs.{all_said, unlisted_contained}
+use Rattle.cg_cli.proofs.as_json.audit_all.audit_all_json_bytes.Goals as goal
+
+pub returns-clause-report : goal.returns-clause-report
+returns-clause-report g c =
+    let asked = c.ask_named.ensures.report in (
+      asked.0,
+      asked.1,
+      all_said in_json asked.0 (map (λ user. (user.uid, user.gids.now)) c.args.users.now)
+          (map (λ subtree. subtree.now) c.args.subtrees.now)
+          (g.W.Write.contents c.args.out.now) (g.W.Write.contents c.ask_named.new.out) c.ask_named.result asked.2,
+    )
+
+pub returns-clause-unlisted : goal.returns-clause-unlisted
+returns-clause-unlisted g c =
+    unlisted_contained in_json c.args.tree.now (map (λ user. (user.uid, user.gids.now)) c.args.users.now)
+    (map (λ subtree. subtree.now) c.args.subtrees.now)
+    (g.W.Write.contents c.args.out.now) (g.W.Write.contents c.ask_named.new.out) c.ask_named.result c.ask_named.ensures.report

@@ -1,0 +1,5 @@
+pub mod Plain
+pub mod PlainAdvice
+pub mod PlainOutcomes
+pub mod Audited
+pub mod Pushed

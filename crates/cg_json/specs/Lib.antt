@@ -1,0 +1,9 @@
+pub mod Lines
+pub mod Members
+pub mod Operations
+pub mod Answers
+pub mod Audits
+pub mod Entries
+pub mod Advice
+pub mod Verdicts
+pub mod Outcomes
