@@ -1,5 +1,5 @@
 //! The command line, as `clap` reads it.
-ghost use Rattle.std.specs.Prelude.{◌≡◌, [], ◌∷◌, IfOk, codes};
+ghost use Rattle.std.specs.Prelude.{◌≡◌, IfOk, codes};
 ghost use Rattle.clap.specs.Words.{app_of};
 ghost use Rattle.arguments.specs.Building.{IsOption, IsCommand};
 ghost use Rattle.arguments.specs.CommandLine.{word_option, number_option, flag, needed, repeated, program_command, command_with, of_user, may_command, subtree_command, pairs_command, with_everybody, audit_options, audit_command, explain_command, advise_named, advise_options, advise_command, replay_command, upgrade_command, with_judgements, command_line};

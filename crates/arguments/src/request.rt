@@ -3,7 +3,7 @@ ghost use Rattle.std.specs.Prelude.{◌≡◌, ◌≢◌, ◌⊎◌, [], Some, N
 ghost use Rattle.std.specs.Option.{option_map};
 ghost use Rattle.clap.specs.Matches.{found_of, first_value};
 ghost use Rattle.arguments.specs.Formats.{format_at};
-ghost use Rattle.arguments.specs.UserWords.{id_at, ids_at, all_read, user_at};
+ghost use Rattle.arguments.specs.UserWords.{ids_at, all_read, user_at};
 ghost use Rattle.arguments.specs.Given.{words_at, file_named, file_at, NamesNoFile, number_at, numbers_at, user_given, users_given, plain_number, users_beside, advised_given, ids_of, NoneIsLeftOut, IsMay, IsCheck, IsAudit, IsEverybody, IsExplain, IsAdvise, IsOfPairs, IsOfSubtrees, tree_file, other_file, IsReplay, IsUpgrade, wanted_command, command_of, Holds, IsOf};
 ghost use Rattle.arguments.specs.Words.{Makes, IsNone};
 ghost use Rattle.arguments.specs.declared.request.Everybody.{Everybody};

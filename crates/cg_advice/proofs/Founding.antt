@@ -10,10 +10,10 @@ use Rattle.cg_model.specs.declared.mend.Mend.TheVariants.{Set}
 use Rattle.cg_model.specs.States.{State}
 use Rattle.cg_model.specs.Once.{once}
 use Rattle.cg_model.specs.Limits.{fits_descendants, fits_depth}
-use Rattle.cg_model.specs.Mends.{Pair as Named, Entrant as Entering, entrants, same_place, met, subtrees_of, descendants_of, depth_of, limit_mends}
+use Rattle.cg_model.specs.Mends.{Pair as Named, Entrant as Entering, entrants, same_place, met, descendants_of, depth_of, limit_mends}
 use Rattle.cg_model.specs.declared.mend.Mend.{Mend}
 use Rattle.cg_model.proofs.OnceLaws.{all-once}
-use Rattle.cg_advice.specs.Found.{Let, let_by, let_gathered, Raised, raised_to, raised_of, parts_of}
+use Rattle.cg_advice.specs.Found.{Let, let_gathered, Raised, raised_to, raised_of, parts_of}
 use Rattle.cg_advice.specs.Thinned.{IsThinned, key_at, table_path, HaveEntered}
 use Rattle.cg_advice.specs.declared.table.Table.{Table}
 use Rattle.cg_advice.proofs.Gathering.{lets_same}

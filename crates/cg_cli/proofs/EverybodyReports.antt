@@ -1,5 +1,5 @@
 -- What the report on everybody says, by what was found.
-use Rattle.std.proofs.Common.{◌≡◌, ℕ, true, List, [], ◌∷◌, Option, Result, Ok, Err, refl, sym, ◌∙◌, subst}
+use Rattle.std.proofs.Common.{◌≡◌, ℕ, true, List, [], Option, Result, Err, refl, sym, ◌∙◌, subst}
 use Rattle.cg_cgroup.specs.Identity.{Identity}
 use Rattle.cg_cgroup.specs.Paths.{Names, same_path}
 use Rattle.cg_model.specs.Once.{once}
@@ -8,7 +8,7 @@ use Rattle.cg_format.specs.Readings.{Reading}
 use Rattle.machine_everybody.specs.Everybody.{Everybody}
 use Rattle.cg_cli.specs.Asking.{named_read, IsKeptOnce, NamedReports}
 use Rattle.cg_cli.specs.Containment.{in_call}
-use Rattle.cg_cli.specs.Everybody.{found_status, found_report_in, everybody_found, everybody_said_in, AnswersEverybody, everybody_report_in}
+use Rattle.cg_cli.specs.Everybody.{found_report_in, everybody_found, everybody_said_in, AnswersEverybody, everybody_report_in}
 use Rattle.cg_cli.specs.Reports.{Report, Reports, takes_memory}
 use Rattle.cg_cli.specs.declared.everybody.Wanted.{Wanted}
 use Rattle.cg_cli.specs.declared.format.Format.{Format}

@@ -17,7 +17,7 @@ use Rattle.cg_cli.specs.Everybody.{everybody_found, found_report_in, found_repor
 use Rattle.cg_cli.specs.May.{tree_read}
 use Rattle.cg_cli.specs.ReplayFormats.{outcome_in, in_format}
 use Rattle.cg_cli.specs.Replays.{is_newline, outcome_of, operation_read, with_front, replayed, bytes_said, closed_in, course_read, operations_report, replay_report}
-use Rattle.cg_cli.specs.Reports.{Said, Report, report_on}
+use Rattle.cg_cli.specs.Reports.{Said, report_on}
 use Rattle.cg_cli.specs.declared.everybody.Wanted.{Wanted}
 use Rattle.cg_cli.specs.declared.format.Format.{Format}
 use Rattle.cg_cli.specs.declared.format.Format.TheVariants.{Lines}
@@ -65,7 +65,8 @@ closing_ending format one other (Unwatched st) = refl
 closing_ending format one other (Watched run) = refl
 
 closed_by : (format : Format) (one other : List ℕ) (ending : Result Course CliFault)
-    → (closed_in format (record { text = one; ending = ending })).ending ≡ (closed_in Lines (record { text = other; ending = ending })).ending
+    → (closed_in format (record { text = one; ending = ending })).ending
+    ≡ (closed_in Lines (record { text = other; ending = ending })).ending
 closed_by format one other (Ok course) = closing_ending format one other course
 closed_by format one other (Err fault) = refl
 

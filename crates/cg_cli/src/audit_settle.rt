@@ -1,5 +1,5 @@
 //! All pairs of some users and some subtrees that aren't settled.
-ghost use Rattle.std.specs.Prelude.{◌≡◌, ◌≢◌, ◌++◌, false, List, [], map, length, Some, None, Ok, IfOk, MatchResult};
+ghost use Rattle.std.specs.Prelude.{◌≡◌, ◌≢◌, false, List, [], map, length, Some, None, Ok, IfOk, MatchResult};
 ghost use Rattle.std.specs.List.{All, flat_map};
 ghost use Rattle.cg_cgroup.specs.Identity.{Identity};
 ghost use Rattle.cg_cgroup.specs.Paths.{Names, same_path};

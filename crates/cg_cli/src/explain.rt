@@ -1,8 +1,6 @@
 //! Why every subtree is contained against every user, or why that isn't told.
-ghost use Rattle.std.specs.Prelude.{◌≡◌, ◌≢◌, [], map, None, IfOk};
+ghost use Rattle.std.specs.Prelude.{◌≡◌, ◌≢◌, [], map, IfOk};
 ghost use Rattle.std.specs.List.{All};
-ghost use Rattle.cg_model.specs.Clauses.{first};
-ghost use Rattle.cg_model.specs.Checks.{subtree_faults};
 ghost use Rattle.cg_model.specs.Guards.{IsSubtree};
 ghost use Rattle.cg_model.specs.WellFormed.{IsWellFormed};
 ghost use Rattle.cg_advice.specs.Ways.{pair_of};

@@ -1,9 +1,8 @@
 //! Cgroups by path, with kept counts.
-ghost use Rattle.std.specs.Prelude.{◌≡◌, ◌≤◌, true, false, length, take, filter, option_copied, [], Some, IfOk, IfSome, OnOk, OnErr, MatchOption};
+ghost use Rattle.std.specs.Prelude.{◌≡◌, ◌≤◌, true, false, length, take, filter, option_copied, [], Some, IfOk, OnOk, OnErr, MatchOption};
 ghost use Rattle.std.specs.Option.{option_map};
 ghost use Rattle.std.specs.FinMap as map;
 ghost use Rattle.cg_cgroup.specs.Paths.{parent, is_root};
-ghost use Rattle.cg_cgroup.specs.Files.{enables};
 ghost use Rattle.cg_model.specs.States.{row_at, count_below, has_child, child_enables, depth_below};
 ghost use Rattle.cg_model.specs.WellFormed.{has_row};
 ghost use Rattle.cg_model.specs.Receiving.{receives};

@@ -1,4 +1,3 @@
--- Answers on everybody as JSON: nobody has to believe it.
 -- The JSON objects of whom the guarded entries of subtrees let in, whoever there is, with the words of their lines. Own.
 use Rattle.std.specs.Prelude.{ℕ, Bool, true, false, ◌&&◌, cond, List, [], ◌∷◌, ◌++◌, map, Some, None, codes}
 use Rattle.std.specs.List.{flat_map}

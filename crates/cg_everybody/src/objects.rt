@@ -161,7 +161,12 @@ fn subtree_value(
     ensures { IfOk result (λ value. view value ≡ subtree_value name.now subtree.now (map view values.items)) }
 {
     let mut members = Map::new(alloc);
-    put_text(&mut members, alloc, "subtree", subtree.prefix(subtree.depth()))?;
+    put_text(
+        &mut members,
+        alloc,
+        "subtree",
+        subtree.prefix(subtree.depth()),
+    )?;
     put(&mut members, alloc, name, Value::from(values))?;
     Ok(Value::from(members))
 }

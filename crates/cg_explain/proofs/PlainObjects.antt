@@ -1,5 +1,5 @@
 -- The object of what is told of a pair has no float, and nests less deep than what is read may.
-use Rattle.std.proofs.Common.{◌≡◌, ℕ, suc, Bool, true, false, cond, List, [], ◌∷◌, ◌++◌, map, codes, Option, Some, None, refl, arith}
+use Rattle.std.proofs.Common.{ℕ, suc, Bool, true, false, cond, List, [], ◌∷◌, ◌++◌, map, codes, Option, Some, None, refl, arith}
 use Rattle.std.specs.List.{AllByRecursion}
 use Rattle.std.specs.Option.{option_map}
 use Rattle.std.proofs.ByRecursion.{All-append}
@@ -17,9 +17,9 @@ use Rattle.cg_model.specs.declared.mend.Class.{Class}
 use Rattle.cg_model.specs.declared.answer.Answer.{Answer}
 use Rattle.cg_model.specs.declared.answer.Answer.TheVariants.{Contained, Escapes, Unsettled}
 use Rattle.cg_advice.specs.AdviceLines.{class_name}
-use Rattle.serde_json.specs.Data.{Data, boolean, array, object, Members, no_members}
+use Rattle.serde_json.specs.Data.{Data, boolean, array, Members, no_members}
 use Rattle.serde_json.specs.View.{items_of}
-use Rattle.cg_json.specs.Entries.{at_guard, entry_members}
+use Rattle.cg_json.specs.Entries.{entry_members}
 use Rattle.cg_json.specs.Operations.{limit_value}
 use Rattle.cg_json.proofs.Plain.{IsPlain, ArePlain, both, put_plain, text_more, number_more, none_plain, object_plain, limit_plain, failed_plain, pair_plain, deeper}
 use Rattle.cg_json.proofs.PlainAdvice.{guard_plain, at_plain}

@@ -1,5 +1,5 @@
 //! The lines of what is told of a pair.
-ghost use Rattle.std.specs.Prelude.{◌≡◌, ◌<◌, ◌++◌, ◌∷◌, [], IfOk, length, string_bytes, codes};
+ghost use Rattle.std.specs.Prelude.{◌≡◌, ◌<◌, IfOk, length, string_bytes};
 ghost use Rattle.cg_advice.specs.AdviceLines.{IsShown};
 ghost use Rattle.cg_explain.specs.ExplainLines.{verdict_word, holds_line, told_line, counted_line, staying_word, switch_word, taking_word, growing_word, files_word, asked_line};
 

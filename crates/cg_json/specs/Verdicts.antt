@@ -1,4 +1,3 @@
--- Answers as JSON: nobody has to believe it.
 -- The JSON object of a verdict, with the words of its line. Own.
 use Rattle.std.specs.Prelude.{codes}
 use Rattle.cg_model.specs.declared.verdict.Clause.{Clause}

@@ -103,7 +103,8 @@ module _ {K X : Type 0} (R : K → K → Ordering) where
   keys-passing p held [] found = refl
   keys-passing p held (e ∷ es) found =
       let rest = filter (λ k. elim (held k) [ None ↦ false | Some x ↦ p k x ]) (map (λ e. e.0) es) in
-      elim (p e.0 e.1) as (λ b. map (λ e. e.0) (cond b (e ∷ filter (λ e. p e.0 e.1) es) (filter (λ e. p e.0 e.1) es)) ≡ cond b (e.0 ∷ rest) rest) [
+      elim (p e.0 e.1)
+      as (λ b. map (λ e. e.0) (cond b (e ∷ filter (λ e. p e.0 e.1) es) (filter (λ e. p e.0 e.1) es)) ≡ cond b (e.0 ∷ rest) rest) [
         | true ↦ ap (λ ks. e.0 ∷ ks) (keys-passing p held es found.1)
         | false ↦ keys-passing p held es found.1
       ]
@@ -168,7 +169,8 @@ module _ {K X : Type 0} {R : K → K → Ordering} where
 
   -- the keys of the entries that pass a test are those whose values pass
   pub keys-filtered : IsTotalOrder R → (p : K → X → Bool) (m : FinMap R X)
-      → map (λ e. e.0) (filter (λ e. p e.0 e.1) (entries m)) ≡ filter (λ k. elim (get m k) [ None ↦ false | Some x ↦ p k x ]) (finite.keys m)
+      → map (λ e. e.0) (filter (λ e. p e.0 e.1) (entries m))
+      ≡ filter (λ k. elim (get m k) [ None ↦ false | Some x ↦ p k x ]) (finite.keys m)
   keys-filtered o p m =
       keys-passing R p (get m) (entries m)
       (all-each (λ e. find R e.0 (entries m) ≡ Some e.1) (λ e. get m e.0 ≡ Some e.1) (λ e is. finite.get-entries m e.0 ∙ is) (entries m)

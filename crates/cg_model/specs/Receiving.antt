@@ -1,4 +1,5 @@
--- Where processes may come. Delegation Containment; No Internal Process Constraint.
+-- Where processes may come: nobody has to believe it.
+-- Delegation Containment; No Internal Process Constraint.
 use Rattle.std.specs.Prelude.{Bool, false, ◌&&◌, ◌||◌, List, filter, None, Some}
 use Rattle.cg_cgroup.specs.Paths.{Names, is_root}
 use Rattle.cg_cgroup.specs.Identity.{Identity}

@@ -263,7 +263,8 @@ module _ (files : Files) (given old new : Option (List ℕ)) where
           absurd (everybody_refused asked.format (wanted_of asked.wanted) (whom asked.everyone) fault subtrees reports.0)
 
       by_lines : (lines : Result (List (List ℕ)) CliFault) → subtrees_read named ≡ lines → (read : Reading) → IsReading text read
-          → OnLines (EverybodyOn asked.format (wanted_of asked.wanted) (whom asked.everyone)) lines read old new (Ok 0) → AreHeldByLines asked
+          → OnLines (EverybodyOn asked.format (wanted_of asked.wanted) (whom asked.everyone)) lines read old new (Ok 0)
+          → AreHeldByLines asked
       by_lines (Ok subtrees) of read reading said = by_reading subtrees of read reading said
       by_lines (Err fault) of read reading said = let never : ⊥ = let same = said.0 in cc in absurd never
   lines_carried asked (inl (text, named, is_tree, are_named, (inr it))) = not_unread old new 0 it

@@ -1,13 +1,12 @@
 //! What to change so that every subtree that pairs name is contained against all users named with it, as JSON.
 ghost use Rattle.std.specs.Prelude.{◌≡◌, ◌≢◌, List, map, Ok, Err, None, IfOk, MatchResult};
 ghost use Rattle.std.specs.List.{flat_map};
-ghost use Rattle.std.specs.Option.{option_map};
 ghost use Rattle.cg_cgroup.specs.Identity.{Identity};
 ghost use Rattle.cg_cgroup.specs.Paths.{Names};
 ghost use Rattle.cg_model.specs.States.{State};
 ghost use Rattle.cg_model.specs.Clauses.{first};
 ghost use Rattle.cg_model.specs.Checks.{subtree_faults};
-ghost use Rattle.cg_advice.specs.Found.{found_parts, advice_parts};
+ghost use Rattle.cg_advice.specs.Found.{advice_parts};
 ghost use Rattle.cg_format.specs.Readings.{OnText};
 ghost use Rattle.cg_format.specs.TextOf.{IsTextOf};
 ghost use Rattle.cg_cli.specs.Advising.{paired, AreContainedAsNamed};
@@ -20,7 +19,7 @@ use crate::as_json::advise::parts_said;
 use crate::named_question::NamedQuestion;
 use crate::pairs::{PairIds, ask_pairs, paired};
 use crate::report::write_said;
-use cg_advice::found::{Found, advice};
+use cg_advice::found::advice;
 use cg_cgroup::memory::NoMemory;
 use cg_cgroup::path::Path;
 use cg_cgroup::user::User;

@@ -1,5 +1,5 @@
 //! What to change so that every subtree is contained against every user, where more is asked than guards, as JSON.
-ghost use Rattle.std.specs.Prelude.{◌≡◌, ◌≢◌, List, [], map, cond, Ok, Err, Some, None, IfOk, MatchResult};
+ghost use Rattle.std.specs.Prelude.{◌≡◌, ◌≢◌, [], map, cond, Ok, Err, Some, None, IfOk, MatchResult};
 ghost use Rattle.std.specs.List.{flat_map};
 ghost use Rattle.std.specs.Option.{option_map};
 ghost use Rattle.cg_model.specs.Clauses.{first};

@@ -7,13 +7,15 @@ use Rattle.commands.proofs.on_subtrees.answered.Goals as goal
 
 pub returns-in-Err : goal.returns-in-Err
 returns-in-Err g c =
-    fault_said subtrees_read (EverybodyOn c.args.format (wanted_of c.args.wanted) (whom c.args.everyone.now)) c.args.tree.now c.args.text.now
+    fault_said subtrees_read (EverybodyOn c.args.format (wanted_of c.args.wanted) (whom c.args.everyone.now))
+    c.args.tree.now c.args.text.now
     c.in-Err.fault c.in-Err.ensures.read c.in-Err.ensures.subtrees
     (g.W.Write.contents c.args.out.now)
 
 pub returns-in-Ok : goal.returns-in-Ok
 returns-in-Ok g c =
-    call_answered subtrees_read (EverybodyOn c.args.format (wanted_of c.args.wanted) (whom c.args.everyone.now)) c.args.tree.now c.args.text.now
+    call_answered subtrees_read (EverybodyOn c.args.format (wanted_of c.args.wanted) (whom c.args.everyone.now))
+    c.args.tree.now c.args.text.now
     (map (λ subtree. subtree.now) c.as_slice.result.now)
     (g.W.Write.contents c.args.out.now) (g.W.Write.contents c.against_everybody.new.out) c.against_everybody.result
     (c.in-Ok.ensures.subtrees

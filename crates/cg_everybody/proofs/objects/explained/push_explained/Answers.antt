@@ -1,11 +1,9 @@
-use Rattle.std.proofs.Common.{◌≡◌, ◌∙◌, ◌++◌, ◌∷◌, [], List, true, false, cond, map, ap, sym, refl}
+use Rattle.std.proofs.Common.{◌∙◌, ◌++◌, ◌∷◌, [], List, true, false, map, ap, sym, refl}
 use Rattle.std.proofs.lemmas.List.{map-append}
 use Rattle.serde_json.specs.Data.{Data}
 use Rattle.serde_json.specs.View.{view}
 use Rattle.cg_explain.specs.FirstRow.{is_told_of}
-use Rattle.cg_everybody.specs.Everybody.{everybody_of}
 use Rattle.machine_everybody.specs.Everybody.{lets_anybody_in}
-use Rattle.cg_everybody.specs.Objects.{by_class, entry_values}
 use Rattle.cg_everybody.proofs.objects.explained.push_explained.Goals as goal
 
 pub returns-in_ok-push : goal.returns-in_ok-push
