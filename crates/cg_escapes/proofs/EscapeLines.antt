@@ -1,5 +1,5 @@
 -- Each operation of a try has a line, and a try has few.
-use Rattle.std.proofs.Common.{◌≡◌, ℕ, zero, suc, ◌+◌, ◌≤◌, Bool, true, false, cond, not, ◌&&◌, List, [], ◌∷◌, ◌++◌, length, length-append, map, filter, take, Option, Some, None, is_some, option_and_then, refl, ap, ◌∙◌, arith, flat_map, nat_le, nat_eq, Ordering, ◌-◌, ◌||◌, codes, decimal, sym, subst, true≢false, unwrap_or, option_map, find}
+use Rattle.std.proofs.Common.{◌≡◌, ℕ, zero, suc, ◌+◌, ◌≤◌, Bool, true, false, cond, not, ◌&&◌, List, [], ◌∷◌, ◌++◌, length, length-append, map, filter, take, Option, Some, None, is_some, option_and_then, refl, ap, ◌∙◌, arith, flat_map, nat_le, nat_eq, Ordering, ◌-◌, ◌||◌, codes, decimal, sym, subst, true≢false, option_map, find}
 use Rattle.std.proofs.lemmas.Bool.{leb-true, le-leb, and_parts, and_from, false_from_ne_true}
 use Rattle.std.proofs.Math.Bool.{or-true}
 use Rattle.std.specs.Option.{option_map_or}

@@ -1,10 +1,10 @@
 -- There is no advice exactly where all guards hold.
-use Rattle.std.proofs.Common.{◌≡◌, ℕ, Bool, true, false, cond, not, ◌&&◌, List, [], ◌∷◌, ◌++◌, filter, Option, Some, None, refl, sym, ap, ◌∙◌, subst}
+use Rattle.std.proofs.Common.{◌≡◌, Bool, true, false, cond, not, ◌&&◌, List, [], ◌∷◌, ◌++◌, filter, Option, Some, None, refl, sym, ap, ◌∙◌, subst}
 use Rattle.std.specs.List.{AllByRecursion, flat_map}
 use Rattle.cg_cgroup.specs.Paths.{Names, same_path}
 use Rattle.cg_cgroup.proofs.PathOrder.{same_path-is}
 use Rattle.cg_model.specs.Clauses.{present}
-use Rattle.cg_model.specs.Guards.{Guarded, guarded_entries, standing}
+use Rattle.cg_model.specs.Guards.{guarded_entries, standing}
 use Rattle.cg_model.specs.Limits.{fits_descendants, fits_depth}
 use Rattle.cg_model.specs.Mends.{limit_mends}
 use Rattle.cg_model.specs.Once.{once}
@@ -13,11 +13,11 @@ use Rattle.cg_model.specs.declared.guard.GuardedEntry.{GuardedEntry}
 use Rattle.cg_model.proofs.ClauseLaws.{no_parts, none_each, each_none}
 use Rattle.cg_model.proofs.Lists.{all-flat_map, all-each, all-both}
 use Rattle.cg_model.proofs.OnceLaws.{all-once}
-use Rattle.cg_advice.specs.AdviceLines.{fails_line, over_line, over_lines, mend_lines}
+use Rattle.cg_advice.specs.AdviceLines.{over_line, over_lines, mend_lines}
 use Rattle.cg_advice.specs.WayLines.{Spot, chown_by, chmod_by}
 use Rattle.machine_everybody.specs.Everybody.{Everybody, lets_anybody_in}
 use Rattle.cg_everybody.specs.Advice.{ways_into, same_spot, spots_met, spot_lines, everybody_advice}
-use Rattle.cg_everybody.specs.Everybody.{entered_by, entrance_of, entrances, classes_in, entrance_lines, excess_lines, found_lines, GuardsHoldForEverybody}
+use Rattle.cg_everybody.specs.Everybody.{entered_by, entrance_of, entrances, entrance_lines, excess_lines, found_lines, GuardsHoldForEverybody}
 use Rattle.cg_everybody.specs.Entrances.{class_lines}
 use Rattle.cg_everybody.proofs.Entering.{entrances-lines}
 use Rattle.cg_everybody.proofs.Held.{shut, fit, holds, none_found}

@@ -17,9 +17,9 @@ use Rattle.cg_model.specs.Clauses.{unless, present}
 use Rattle.cg_model.specs.Guards.{Guarded, guarded_entries, guarded_entry, entry_failures, over_failures, GuardsHold, found, standing}
 use Rattle.cg_model.specs.Limits.{fits_descendants, fits_depth}
 use Rattle.cg_model.specs.Mended.{without_bits}
-use Rattle.cg_model.specs.Mends.{Change, changes_at, limit_changes, made}
+use Rattle.cg_model.specs.Mends.{limit_changes}
 use Rattle.cg_model.specs.Once.{once}
-use Rattle.cg_model.specs.States.{State, entry_at, count_below, depth_below}
+use Rattle.cg_model.specs.States.{State, entry_at}
 use Rattle.cg_model.specs.WellFormed.{IsWellFormed}
 use Rattle.cg_model.specs.declared.guard.Failed.{Failed}
 use Rattle.cg_model.specs.declared.guard.Guard.TheVariants.{AlreadyOver}

@@ -1,5 +1,5 @@
 -- What the changes of the advice do to one entry and to one value, one change after another.
-use Rattle.std.proofs.Common.{◌≡◌, ℕ, Bool, true, false, cond, ◌&&◌, ◌||◌, not, nat_eq, List, [], ◌∷◌, ◌++◌, take, refl, sym, ap, ◌∙◌, Option, Some, None, option_map}
+use Rattle.std.proofs.Common.{◌≡◌, ℕ, Bool, true, false, cond, ◌||◌, not, nat_eq, List, [], ◌∷◌, refl, ap, ◌∙◌, Option, Some, None, option_map}
 use Rattle.std.specs.List.{flat_map, list_any, AllByRecursion}
 use Rattle.std.proofs.lemmas.Bool.{eqb-true}
 use Rattle.cg_cgroup.specs.Cgroups.{with_mode_of}
@@ -15,14 +15,13 @@ use Rattle.cg_model.specs.Mended.{without_bits}
 use Rattle.cg_model.specs.Mends.{changes_at, limit_changes, owned_by}
 use Rattle.cg_model.specs.Once.{once}
 use Rattle.cg_model.specs.States.{State, entry_at, value_at}
-use Rattle.cg_model.specs.declared.guard.GuardedEntry.{GuardedEntry}
 use Rattle.cg_model.specs.declared.mend.Mend.TheVariants.{Chown, Chmod}
 use Rattle.cg_model.proofs.Lists.{all-flat_map, all-each}
 use Rattle.cg_model.proofs.OnceLaws.{any-once, all-once}
 use Rattle.cg_advice.specs.WayLines.{Spot, chown_by, chmod_by}
 use Rattle.cg_advice.proofs.Running.{map_same, same_either, through-append, through-at, through-unless, run_one, run, entry_at-made, run-limits, settled, alike, IsThere, this-there, hold_one, hold, value_at-made, hold-limits, among-once}
 use Rattle.machine_everybody.specs.Everybody.{Everybody, lets_anybody_in}
-use Rattle.cg_everybody.specs.Advice.{ways_into, is_spot_at, same_spot, spots_met, spot_changes, everybody_changes, everybody_advised, taken_back, lets_in_at, is_asked_of, advised_but, advised_but_limits}
+use Rattle.cg_everybody.specs.Advice.{ways_into, is_spot_at, same_spot, spots_met, spot_changes, everybody_changes, everybody_advised, taken_back, lets_in_at, is_asked_of, advised_but_limits}
 use Rattle.cg_everybody.specs.Everybody.{entered_by, entrance_of, entrances}
 use Rattle.cg_everybody.proofs.AdviceWritten.{anybody_at}
 

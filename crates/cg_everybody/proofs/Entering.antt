@@ -1,5 +1,5 @@
 -- The entrances of a subtree: those of the doors above it, the nearest first, and then all others.
-use Rattle.std.proofs.Common.{◌≡◌, ℕ, zero, suc, ◌+◌, ◌-◌, ◌<◌, ◌≤◌, Bool, true, false, cond, List, [], ◌∷◌, ◌++◌, map, length, take, drop, get_or, filter, Option, Some, None, refl, sym, ap, subst, ◌∙◌, append_assoc, append-nil, take-suc, arith, lt-ltb, le-ltb}
+use Rattle.std.proofs.Common.{◌≡◌, ℕ, zero, suc, ◌+◌, ◌-◌, ◌<◌, ◌≤◌, Bool, true, false, cond, List, [], ◌∷◌, ◌++◌, length, take, drop, get_or, filter, Option, Some, None, refl, sym, ap, subst, ◌∙◌, append_assoc, append-nil, take-suc, arith, lt-ltb}
 use Rattle.std.specs.Prelude.{nat_lt, option_and_then, slice_get}
 use Rattle.std.specs.List.{flat_map, AllByRecursion}
 use Rattle.std.specs.Option.{option_map}
@@ -16,7 +16,7 @@ use Rattle.cg_model.specs.Clauses.{present}
 use Rattle.cg_model.specs.Guards.{Guarded, ancestor, ancestors, limit_files, parent_control, parent_dir, guarded_entries, guarded_entry, found, standing}
 use Rattle.cg_model.specs.States.{State, entry_at}
 use Rattle.cg_model.specs.declared.guard.GuardedEntry.{GuardedEntry}
-use Rattle.cg_guards.proofs.TableWalk.{length-ancestors, ancestor_at, walk_turn, drop_all}
+use Rattle.cg_guards.proofs.TableWalk.{length-ancestors, ancestor_at, walk_turn}
 use Rattle.cg_advice.specs.AdviceLines.{fails_line}
 use Rattle.machine_everybody.specs.Everybody.{Everybody, lets_anybody_in}
 use Rattle.cg_everybody.specs.Everybody.{classes_in, entrance_lines, entered_by, entrance_of, entrances}

@@ -1,10 +1,7 @@
 -- The lines of the classes of an entry, and of one subtree after another.
-use Rattle.std.proofs.Common.{◌≡◌, ℕ, ◌+◌, ◌≤◌, ◌<◌, Bool, true, false, cond, List, [], ◌∷◌, ◌++◌, length, take, drop, get_or, Option, refl, sym, ap, ◌∙◌, append_assoc, append-nil, take-suc, add-one}
-use Rattle.std.specs.Prelude.{option_and_then, slice_get}
+use Rattle.std.proofs.Common.{◌≡◌, ℕ, ◌+◌, ◌<◌, Bool, true, false, cond, List, [], ◌∷◌, ◌++◌, length, take, get_or, refl, sym, ap, ◌∙◌, append_assoc, append-nil, take-suc, add-one}
 use Rattle.std.specs.List.{filter, flat_map}
 use Rattle.cg_cgroup.specs.Paths.{Names}
-use Rattle.cg_model.specs.Clauses.{present}
-use Rattle.cg_model.specs.Guards.{guarded_entries, standing}
 use Rattle.cg_model.specs.States.{State}
 use Rattle.cg_model.specs.declared.guard.GuardedEntry.{GuardedEntry}
 use Rattle.cg_model.specs.declared.mend.Class.{Class}
@@ -12,7 +9,7 @@ use Rattle.cg_model.specs.declared.mend.Class.TheVariants.{Owner, Group, Others}
 use Rattle.cg_advice.specs.AdviceLines.{fails_line}
 use Rattle.cg_advice.proofs.Gathering.{flat_more}
 use Rattle.machine_everybody.specs.Everybody.{Everybody}
-use Rattle.cg_everybody.specs.Everybody.{opens_to, classes_in, entrance_lines, found_lines, headed, subtree_lines, everybody_lines}
+use Rattle.cg_everybody.specs.Everybody.{opens_to, classes_in, found_lines, headed, subtree_lines, everybody_lines}
 
 -- ---- the classes of an entry
 

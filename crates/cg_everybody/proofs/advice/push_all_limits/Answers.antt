@@ -1,9 +1,7 @@
-use Rattle.std.proofs.Common.{Bor, ap, sym, subst, refl, ◌∙◌, ◌++◌, ◌∷◌, [], take, take_all, take-suc, add-one}
-use Rattle.std.specs.List.{flat_map}
+use Rattle.std.proofs.Common.{Bor, ap, sym, subst, refl, ◌∙◌, take}
 use Rattle.std.specs.Ordering.{is_eq}
 use Rattle.std.specs.BTreeSet.{contains}
 use Rattle.cg_cgroup.specs.Paths.{Names, path_cmp, same_path}
-use Rattle.cg_model.specs.Once.{once}
 use Rattle.cg_advice.specs.AdviceLines.{over_lines}
 use Rattle.cg_advice.proofs.Gathering.{tied_paths, AreWritten, written_first, written_again}
 use Rattle.cg_everybody.proofs.Walked.{taken_more}

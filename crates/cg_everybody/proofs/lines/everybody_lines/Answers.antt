@@ -1,5 +1,5 @@
-use Rattle.std.proofs.Common.{◌∙◌, subst, sym, ap}
-use Rattle.cg_everybody.specs.Everybody.{everybody_of, everybody_lines}
+use Rattle.std.proofs.Common.{◌∙◌, subst, sym}
+use Rattle.cg_everybody.specs.Everybody.{everybody_of}
 use Rattle.cg_everybody.specs.Entrances.{AreDoorsAbove}
 use Rattle.cg_everybody.proofs.Walked.{one_more}
 use Rattle.cg_everybody.proofs.lines.everybody_lines.Goals as goal

@@ -1,8 +1,8 @@
-use Rattle.std.proofs.Common.{◌≡◌, ℕ, List, ◌∙◌, ◌++◌, ◌-◌, ◌+◌, ◌<◌, ap, sym, get_or, map, take, take_all, length, arith, append_assoc, append-nil}
-use Rattle.cg_model.specs.Guards.{ancestor, ancestors}
+use Rattle.std.proofs.Common.{◌≡◌, ℕ, List, ◌∙◌, ◌++◌, ◌-◌, ◌+◌, ap, sym, get_or, map, take, take_all, length, arith, append_assoc, append-nil}
+use Rattle.cg_model.specs.Guards.{ancestor}
 use Rattle.cg_advice.specs.WayLines.{Spot}
 use Rattle.cg_everybody.specs.Everybody.{everybody_of, entrance_of}
-use Rattle.cg_everybody.specs.Entrances.{doors, entrance_spot}
+use Rattle.cg_everybody.specs.Entrances.{entrance_spot}
 use Rattle.cg_everybody.proofs.Entering.{backwards, backwards-last, door-at, doors-entered}
 use Rattle.cg_everybody.proofs.walk.enter_doors.Goals as goal
 

@@ -1,4 +1,4 @@
-use Rattle.std.proofs.Common.{◌≡◌, ◌∙◌, ◌++◌, ◌+◌, ap, sym, map, drop, append_assoc, append-nil, arith}
+use Rattle.std.proofs.Common.{◌∙◌, ◌++◌, ◌+◌, ap, sym, map, drop, append_assoc, append-nil, arith}
 use Rattle.std.specs.List.{flat_map}
 use Rattle.cg_guards.proofs.TableWalk.{drop_all}
 use Rattle.cg_model.specs.Guards.{guarded_entries}

@@ -1,7 +1,6 @@
-use Rattle.std.proofs.Common.{◌≡◌, ◌∙◌, ◌<◌, ◌≤◌, ◌+◌, ◌-◌, ℕ, zero, suc, List, length, refl, ap, sym, arith}
-use Rattle.std.specs.Prelude.{Option, Some, None}
+use Rattle.std.proofs.Common.{◌≡◌, ◌∙◌, ◌+◌, ◌-◌, ℕ, suc, List, length, ap, sym, arith}
+use Rattle.std.specs.Prelude.{Some, None}
 use Rattle.std.specs.Option.{option_or}
-use Rattle.toml_parser.specs.Lexical.{skip_blank}
 use Rattle.cg_help.specs.Modes.{mode_at, past, key_mode}
 use Rattle.cg_help.specs.declared.modes.Spelled.{Spelled}
 use Rattle.cg_help.proofs.modes.key_mode.Goals as goal
