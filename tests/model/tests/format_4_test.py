@@ -10,7 +10,7 @@ sys.path.insert(0, os.path.dirname(os.path.dirname(os.path.abspath(__file__))))
 from second import commands, documents, rules, texts
 from second.limit_files import LIMIT_FILES, TEXT_FILES
 from trials import cases, format_4, limit_files, programs, spelling, trees
-import format_4_rows as rows
+import rows_of_format_4 as rows
 
 MOST, LARGE = documents.MOST_BYTES, documents.MOST_LARGE
 

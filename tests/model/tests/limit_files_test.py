@@ -8,7 +8,7 @@ from second import commands, explained, lasting, limit_files, rules, texts
 from second.limit_files import LIMIT_FILES, NUMBER_FILES, TEXT_FILES
 from second.rules import Entry
 from trials.limit_files import DEVICE_FILES, named_at, texts_at
-import format_4_rows as rows
+import rows_of_format_4 as rows
 import limit_table
 
 ONE, TOP, CHILD = (1000, (7,)), ("s",), ("s", "a")

@@ -9,13 +9,13 @@ import tomllib
 import unittest
 
 sys.path.insert(0, os.path.dirname(os.path.dirname(os.path.abspath(__file__))))
-# behind all else: another module there has a name of one here
 sys.path.append(os.path.join(os.path.dirname(os.path.abspath(__file__)), "../../program"))
 import upgrade_bytes
 from second import as_json, commands, rules
 from trials import cases, directed, format_4, labels, programs, row_tables, rows, spelling, trees, mutants
 
-OLDER = frozenset([*commands.OPTIONS, "audit --all", "advise --pairs", "audit --settle", "advise --settle"])
+OLDER = frozenset([*commands.OPTIONS, "audit --all", "advise --pairs", "audit --settle", "advise --settle",
+                   cases.FORMAT])
 ALL = OLDER | {format_4.FORMAT_4}
 # which random cases seldom notice, and those of a turn of the directed ones do
 SELDOM = ["tries the removal before controls", "tells of others before the group", "cpu.weight may be 10001",

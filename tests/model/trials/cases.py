@@ -66,10 +66,10 @@ def directed_row(number):
 
 
 def random_case(seed, number, known):
-    """The case of a seed and a number, of the commands that the program has; at times as JSON where it has that, by a number of its own, so
-    that all other cases are those of a program that doesn't."""
+    """The case of a seed and a number, of the commands that the program has; one that is drawn at times as JSON where it has that, by a number
+    of its own, so that all other cases are those of a program that doesn't."""
     case, rng = case_of_lines(seed, number, known), random.Random(f"json {seed} {number}")
-    if FORMAT in known and rng.random() < AS_JSON:
+    if FORMAT in known and directed_row(number) is None and rng.random() < AS_JSON:
         give_format(rng, case)
     return case
 
