@@ -6,9 +6,8 @@ use Rattle.std.specs.List.{flat_map}
 use Rattle.cg_cgroup.specs.Paths.{Names}
 use Rattle.cg_cgroup.specs.declared.user.Entry.{Entry}
 use Rattle.cg_model.specs.Clauses.{present}
-use Rattle.cg_model.specs.Guards.{Guarded, ancestor, guarded_entries, guarded_entry, standing}
+use Rattle.cg_model.specs.Guards.{ancestor, guarded_entries, guarded_entry, standing}
 use Rattle.cg_model.specs.States.{State}
-use Rattle.cg_model.specs.declared.guard.GuardedEntry.{GuardedEntry}
 use Rattle.cg_advice.specs.AdviceLines.{fails_line}
 use Rattle.cg_advice.specs.WayLines.{Spot}
 use Rattle.machine_everybody.specs.Everybody.{Everybody, lets_anybody_in}

@@ -115,8 +115,8 @@ changes_members st asked subtrees =
 
 -- where there is somebody who may break one
 abbrev pub or_contained : Bool → Members → Members
-or_contained false members = contained_members
-or_contained true members = members
+or_contained false told = contained_members
+or_contained true told = told
 
 abbrev pub advised_members : State → Everybody → List Names → Bool → Members
 advised_members st asked subtrees found = put_premises asked (or_contained found (changes_members st asked subtrees))
