@@ -38,11 +38,10 @@ everybody_ending format wanted asked tree texts =
 
 -- ---- a replay
 
-unfolding replayed
-
 pieces_ending : (format : Format) (vocabulary : Vocabulary) (course : Course) (user : Identity) (done : ℕ) (pieces : List (List ℕ))
     → (replayed (in_format format vocabulary) course user done pieces).ending
     ≡ (replayed (in_format Lines vocabulary) course user done pieces).ending
+unfolding replayed
 pieces_ending format vocabulary course user done [] = refl
 pieces_ending format vocabulary course user done (piece ∷ []) = refl
 pieces_ending format vocabulary course user done (piece ∷ next ∷ others) =
@@ -52,11 +51,10 @@ pieces_ending format vocabulary course user done (piece ∷ next ∷ others) =
     same_ending (operation_read vocabulary done piece) (said format) (said Lines)
     (λ op. pieces_ending format vocabulary (on_course course user op) user (done + 1) (next ∷ others))
 
-unfolding bytes_said
-
 bytes_ending : (format : Format) (vocabulary : Vocabulary) (course : Course) (user : Identity) (done : ℕ) (bytes : List ℕ)
     → (bytes_said (in_format format vocabulary) course user done bytes).ending
     ≡ (bytes_said (in_format Lines vocabulary) course user done bytes).ending
+unfolding bytes_said
 bytes_ending format vocabulary course user done bytes = pieces_ending format vocabulary course user done (slice_split is_newline bytes)
 
 closing_ending : (format : Format) (one other : List ℕ) (course : Course)
