@@ -16,7 +16,7 @@ returns-in-Json-false-clause-answer g c =
     let said = rw (c.as_slice-subtrees.ensures.value, c.as_slice-users.ensures.value, c.in_ok-users.ensures.ids, c.as_slice.ensures.value)
     at c.advise_json_bytes.ensures.report in rw (c.in-Json-false.is-0, c.in-Json-false.is-1) (inl said)
 
-pub returns-in-Json-true-clause-answer : goal.returns-in-Json-true-clause-answer
-returns-in-Json-true-clause-answer g c =
+pub returns-clause-answer : goal.returns-clause-answer
+returns-clause-answer g c =
     let said = rw (c.as_slice-subtrees.ensures.value, c.as_slice-users.ensures.value, c.in_ok-users.ensures.ids, c.as_slice.ensures.value)
     at c.advise_settled_json_bytes.ensures.report in rw (c.in-Json-true.is-0, c.in-Json-true.is-1) (inl said)

@@ -43,8 +43,8 @@ returns-in-Json-true-false-clause-answer g c =
     at c.audit_settled_json_bytes.ensures.report in
     rw (c.in-Json-true-false.is-0, c.in-Json-true-false.is-1, c.in-Json-true-false.is-2) (inl said)
 
-pub returns-in-Json-true-true-clause-answer : goal.returns-in-Json-true-true-clause-answer
-returns-in-Json-true-true-clause-answer g c =
+pub returns-clause-answer : goal.returns-clause-answer
+returns-clause-answer g c =
     let said = rw (c.as_slice-subtrees.ensures.value, c.as_slice-users.ensures.value, c.in_ok-users.ensures.ids, c.as_slice.ensures.value)
     at c.audit_all_settled_json_bytes.ensures.report in
     rw (c.in-Json-true-true.is-0, c.in-Json-true-true.is-1, c.in-Json-true-true.is-2) (inl said)

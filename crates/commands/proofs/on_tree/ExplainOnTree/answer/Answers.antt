@@ -6,7 +6,7 @@ returns-in-Lines-clause-answer g c =
     let said = rw (c.as_slice-subtrees.ensures.value, c.as_slice-users.ensures.value, c.in_ok-users.ensures.ids, c.as_slice.ensures.value)
     at c.explain_bytes.ensures.report in rw c.in-Lines.is (inl said)
 
-pub returns-in-Json-clause-answer : goal.returns-in-Json-clause-answer
-returns-in-Json-clause-answer g c =
+pub returns-clause-answer : goal.returns-clause-answer
+returns-clause-answer g c =
     let said = rw (c.as_slice-subtrees.ensures.value, c.as_slice-users.ensures.value, c.in_ok-users.ensures.ids, c.as_slice.ensures.value)
     at c.explain_json_bytes.ensures.report in rw c.in-Json.is (inl said)
