@@ -85,7 +85,7 @@ use Rattle.commands.specs.declared.fault.Fault.TheVariants.{Usage, Cli}
 use Rattle.commands.proofs.BufferedLaws.{CarriesOut-Keeps}
 use Rattle.commands.proofs.PairLaws.{asked_about}
 use Rattle.commands.proofs.SubtreeLaws.{are_lines}
-use Rattle.commands.proofs.YesLaws.{not_unread, flushed_is, ends_alike, everybody_ended}
+use Rattle.commands.proofs.YesLaws.{not_unread, flushed_is, ends_alike, everybody_ended as ended_by_lines}
 use Rattle.machine_answers.proofs.GuardedLaws.{named_read, contained_by_status}
 use Rattle.theorems.proofs.SettledLaws.{settled_as}
 use Rattle.theorems.proofs.FurtherLaws.{settled_told, settled_told_as_json, all_told, first_told}
@@ -281,7 +281,7 @@ module _ (files : Files) (given old new : Option (List ℕ)) (status : ℕ) wher
         let report =
         on_state (λ read. Reports (everybody_asked asked read) old new (Ok status)) (source files (name_of asked.tree) given) old new status
         text st of_known of_text carried in
-        let ended = everybody_ended asked.format (wanted_of asked.wanted) (whom asked.everyone) (Ok st) words status report.0 in (
+        let ended = ended_by_lines asked.format (wanted_of asked.wanted) (whom asked.everyone) (Ok st) words status report.0 in (
           report,
           all_hold st (wanted_of asked.wanted) (whom asked.everyone) words subtrees status of_paths ended,
           all_contained st (wanted_of asked.wanted) (whom asked.everyone) words subtrees status of_paths ended of_text.says.formed,
@@ -309,7 +309,7 @@ module _ (files : Files) (given old new : Option (List ℕ)) (status : ℕ) wher
           said.2,
           λ subtrees of_paths.
               let ended =
-              everybody_ended asked.format (wanted_of asked.wanted) (whom asked.everyone) (Ok st) said.0 status said.2.0 in (
+              ended_by_lines asked.format (wanted_of asked.wanted) (whom asked.everyone) (Ok st) said.0 status said.2.0 in (
                 all_hold st (wanted_of asked.wanted) (whom asked.everyone) said.0 subtrees status of_paths ended,
                 all_contained st (wanted_of asked.wanted) (whom asked.everyone) said.0 subtrees status of_paths ended of_text.says.formed,
               ),
