@@ -144,8 +144,8 @@ def pair_of(line):
 
 def told_of(lines):
     """What is told of a pair, and the first line of its answer."""
-    *told, last = lines
-    answer, *rest = last.split(" ")
+    told = [line for line in lines if line.startswith(("holds ", "fails "))]
+    answer, *rest = lines[len(told)].split(" ")
     return {"guards": [guard_of(line) for line in told], "answer": answer, **fields(("guard", "path"), rest)}
 
 
