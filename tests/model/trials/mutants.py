@@ -621,7 +621,6 @@ OF_JSON = {
     "of a refusal nothing but its word is told": ("**fields(REFUSALS[rest[0]], rest[1:])}", "}"),
     "an operation that is done has no object": (
         "return [step_of(line) for line in lines]", 'return [step_of(line) for line in lines if line != "ok"]'),
-    "of a process that crossed no pid is told": ('("after", "what", "pid")', '("after", "what")'),
 }
 OF_FORMATS = {
     "--format takes any word": ("if self.format not in FORMATS:", "if False:"),

@@ -156,6 +156,7 @@ OF_ROWS = {
         "lines of subtrees", "commands", "    words = [line.decode", "    lines, end = lines + [end] * bool(end), b\"\"\n    words = [line.decode"),
     "a first pair has the status of the worst": (
         "as JSON", "as_json", "status if answer is None else commands.STATUS[answer], fault", "status, fault"),
+    "of a process that crossed no pid is told": ("as JSON", "as_json", '("after", "what", "pid")', '("after", "what")'),
     "who is left out is a text": ("as JSON", "as_json", PREMISES, PREMISES.replace('int(line.split(" ")[1])', 'line.split(" ")[1]')),
     "that nobody is left out isn't told": (
         "as JSON", "as_json", PREMISES, PREMISES.replace('{"but"', '{} if not {*"bg"} & {line[0] for line in lines} else {"but"')),
