@@ -27,7 +27,7 @@ use Rattle.cg_advice.specs.Ways.{pair_of}
 use Rattle.cg_advice.specs.declared.pair.Pair.{Pair as PairOfBoth}
 use Rattle.cg_advice.proofs.Gathering.{one_more, flat_more}
 use Rattle.cg_format.specs.Readings.{Reading}
-use Rattle.cg_cli.specs.Advising.{lines_report, pair_with, all_pairs, advised, advice_report, AdvisesPairs, named_report, advise_report}
+use Rattle.cg_cli.specs.Advising.{Advice, told_report, pair_with, all_pairs, advised_by, advice_report_by, AdvisesPairsBy, named_report, advise_report_by}
 use Rattle.cg_cli.specs.Asking.{named_read, IsMet, IsKeptOnce, NamedReports}
 use Rattle.cg_cli.specs.Audits.{users_read, paths_read}
 use Rattle.cg_cli.specs.Containment.{in_call}
@@ -183,14 +183,15 @@ module _ (st : State) (subtrees : List Names) where
 
 -- ---- over bytes
 
-pub of_lines : (found : Option (List ℕ)) → takes_memory (lines_report found).ending ≡ true
-of_lines None = refl
-of_lines (Some lines) = refl
+pub of_text : (none : List ℕ) (found : Option (List ℕ)) → takes_memory (told_report none found).ending ≡ true
+of_text none None = refl
+of_text none (Some text) = refl
 
-pub advice_takes : (st : State) (subtrees : List Names) (pairs : List Pair)
-    → takes_memory (advice_report st subtrees pairs).ending ≡ true
-advice_takes st subtrees pairs =
-    report_takes (in_call (advised st subtrees pairs)) lines_report of_lines (call_takes (advised st subtrees pairs))
+pub advice_takes : (how : Advice) (st : State) (subtrees : List Names) (pairs : List Pair)
+    → takes_memory (advice_report_by how st subtrees pairs).ending ≡ true
+advice_takes how st subtrees pairs =
+    report_takes (in_call (advised_by how st subtrees pairs)) (told_report how.none) (of_text how.none)
+    (call_takes (advised_by how st subtrees pairs))
 
 module _ (report : State → List Identity → List Names → Report)
     (takes : (st : State) (users : List Identity) (subtrees : List Names) → takes_memory (report st users subtrees).ending ≡ true)
@@ -215,26 +216,33 @@ module _ (report : State → List Identity → List Names → Report)
       → named_report report tree given texts ≡ report st users subtrees
   said_of_read users subtrees st is = by_all ∙ ap (λ found. report_on found (λ all. report all.2 all.0 all.1)) is
 
--- of users and subtrees each of whom counts once
-abbrev pub once_report : State → List Identity → List Names → Report
-once_report st users subtrees =
-    advice_report st (once same_path subtrees) (all_pairs (once same_user users) (once same_path subtrees))
+-- a report on users and subtrees each of whom counts once
+module _ (report : State → List Identity → List Names → Report)
+    (takes : (st : State) (users : List Identity) (subtrees : List Names) → takes_memory (report st users subtrees).ending ≡ true) where
+  abbrev of_once : State → List Identity → List Names → Report
+  of_once st users subtrees = report st (once same_user users) (once same_path subtrees)
 
-pub once_takes : (st : State) (users : List Identity) (subtrees : List Names) → takes_memory (once_report st users subtrees).ending ≡ true
-once_takes st users subtrees = advice_takes st (once same_path subtrees) (all_pairs (once same_user users) (once same_path subtrees))
+  of_once_takes : (st : State) (users : List Identity) (subtrees : List Names) → takes_memory (of_once st users subtrees).ending ≡ true
+  of_once_takes st users subtrees = takes st (once same_user users) (once same_path subtrees)
 
-pub said_of_kept : (tree : Reading) (given : List (ℕ × List ℕ)) (texts : List (List ℕ)) (users : List Identity) (subtrees : List Names)
-    (st : State) → IsKeptOnce (named_read given texts tree) users subtrees st
-    → advise_report tree given texts ≡ advice_report st subtrees (all_pairs users subtrees)
-said_of_kept tree given texts users subtrees st kept =
-    said_of_read once_report once_takes tree given texts kept.all_users kept.all_subtrees st kept.is
-    ∙ (λ i. advice_report st (sym kept.of_subtrees i) (all_pairs (sym kept.of_users i) (sym kept.of_subtrees i)))
+  pub once_said : (answers : State → List Identity → List Names → Option (List ℕ) → Option (List ℕ) → Result ℕ CliFault → Type 0)
+      → ((st : State) (users : List Identity) (subtrees : List Names) (old new : Option (List ℕ)) (result : Result ℕ CliFault)
+      → answers st users subtrees old new result → Reports (report st users subtrees) old new result)
+      → (tree : Reading) (given : List (ℕ × List ℕ)) (texts : List (List ℕ)) (old new : Option (List ℕ)) (result : Result ℕ CliFault)
+      → NamedReports answers tree given texts old new result → Reports (named_report of_once tree given texts) old new result
+  once_said answers says tree given texts =
+      by_reading answers tree given texts (Reports (named_report of_once tree given texts))
+      (λ fault met known. fault_said of_once of_once_takes tree given texts fault met known (Err fault) refl)
+      (λ users subtrees st kept old new result said.
+      subst (λ (r : Report). Reports r old new result)
+      (sym (said_of_read of_once of_once_takes tree given texts kept.all_users kept.all_subtrees st kept.is
+      ∙ (λ i. report st (sym kept.of_users i) (sym kept.of_subtrees i))))
+      (says st users subtrees old new result said))
 
-pub advise_said : (tree : Reading) (given : List (ℕ × List ℕ)) (texts : List (List ℕ)) (old new : Option (List ℕ))
-    (result : Result ℕ CliFault) → NamedReports AdvisesPairs tree given texts old new result
-    → Reports (advise_report tree given texts) old new result
-advise_said tree given texts =
-    by_reading AdvisesPairs tree given texts (Reports (advise_report tree given texts))
-    (λ fault met known. fault_said once_report once_takes tree given texts fault met known (Err fault) refl)
-    (λ users subtrees st kept old new result said.
-    subst (λ (r : Report). Reports r old new result) (sym (said_of_kept tree given texts users subtrees st kept)) said.0)
+pub advise_said : (how : Advice) (tree : Reading) (given : List (ℕ × List ℕ)) (texts : List (List ℕ)) (old new : Option (List ℕ))
+    (result : Result ℕ CliFault) → NamedReports (AdvisesPairsBy how) tree given texts old new result
+    → Reports (advise_report_by how tree given texts) old new result
+advise_said how =
+    once_said (λ st users subtrees. advice_report_by how st subtrees (all_pairs users subtrees))
+    (λ st users subtrees. advice_takes how st subtrees (all_pairs users subtrees)) (AdvisesPairsBy how)
+    (λ st users subtrees old new result said. said.0)

@@ -8,21 +8,27 @@ use Rattle.cg_model.specs.Several.{AreContained}
 use Rattle.cg_format.specs.Readings.{Reading, OnText}
 use Rattle.cg_format.specs.TextOf.{IsTextOf}
 use Rattle.cg_format.proofs.ReadingLaws.{one_reading}
+use Rattle.cg_report.specs.AuditLines.{audit_text}
 use Rattle.cg_cli.specs.Asking.{read_in_turn, named_read, IsMet, IsKeptOnce, NamedReports}
-use Rattle.cg_cli.specs.Audits.{users_read, paths_read, audit_answer_report, pairs_report, AuditsPairs, audit_report}
+use Rattle.cg_cli.specs.Audits.{AuditText, users_read, paths_read, audit_answer_report_by, pairs_report, pairs_report_by, AuditsPairsBy, audit_report}
 use Rattle.cg_cli.specs.Containment.{in_call}
+use Rattle.cg_cli.specs.Formats.{audit_in, audit_report_in}
 use Rattle.cg_cli.specs.May.{tree_read}
 use Rattle.cg_model.specs.Once.{once}
 use Rattle.cg_cli.specs.Once.{same_user}
 use Rattle.cg_cli.specs.Reports.{Report, Reports, fault_report, report_on, takes_memory}
+use Rattle.cg_cli.specs.declared.format.Format.{Format}
+use Rattle.cg_cli.specs.declared.format.Format.TheVariants.{Lines, Json}
 use Rattle.cg_faults.specs.declared.fault.CliFault.{CliFault}
+use Rattle.cg_cli.proofs.AdviseReports.{once_said}
 use Rattle.cg_cli.proofs.AuditOnce.{said_once, contained_once, some_once, same_user-is}
 use Rattle.cg_cli.proofs.NamedReads.{regrouped, by_reading}
 use Rattle.cg_cli.proofs.ReportLaws.{same_Ok, call_takes, report_takes, met_reports}
 
-pub pairs_take : (st : State) (users : List Identity) (subtrees : List Names) → takes_memory (pairs_report st users subtrees).ending ≡ true
-pairs_take st users subtrees =
-    report_takes (in_call (all_checked st users subtrees)) (audit_answer_report users subtrees) (λ found. refl)
+pub pairs_take : (text : AuditText) (st : State) (users : List Identity) (subtrees : List Names)
+    → takes_memory (pairs_report_by text st users subtrees).ending ≡ true
+pairs_take text st users subtrees =
+    report_takes (in_call (all_checked st users subtrees)) (audit_answer_report_by text users subtrees) (λ found. refl)
     (call_takes (all_checked st users subtrees))
 
 module _ (tree : Reading) (given : List (ℕ × List ℕ)) (texts : List (List ℕ)) where
@@ -39,7 +45,7 @@ module _ (tree : Reading) (given : List (ℕ × List ℕ)) (texts : List (List �
       → Reports (audit_report tree given texts) known known (Err fault)
   fault_said fault met known =
       subst (λ report. Reports report known known (Err fault)) (sym by_all)
-      (met_reports read (λ all. pairs_report all.2 all.0 all.1) (λ all. pairs_take all.2 all.0 all.1) fault met known)
+      (met_reports read (λ all. pairs_report all.2 all.0 all.1) (λ all. pairs_take audit_text all.2 all.0 all.1) fault met known)
 
   module _ (users : List Identity) (subtrees : List Names) (st : State) (kept : IsKeptOnce read users subtrees st) where
     -- of who and what is named again only the first is asked
@@ -65,12 +71,21 @@ module _ (tree : Reading) (given : List (ℕ × List ℕ)) (texts : List (List �
         (sym kept.is ∙ (λ i. read_in_turn (is_who i) (are_paths i) (tree_read (is_text i)))))
         (all_contained law)
 
-  pub audit_said : (old new : Option (List ℕ)) (result : Result ℕ CliFault) → NamedReports AuditsPairs tree given texts old new result
+  audit_said : (old new : Option (List ℕ)) (result : Result ℕ CliFault)
+      → NamedReports (AuditsPairsBy audit_text) tree given texts old new result
       → Reports (audit_report tree given texts) old new result
   audit_said =
-      by_reading AuditsPairs tree given texts (Reports (audit_report tree given texts)) fault_said
+      by_reading (AuditsPairsBy audit_text) tree given texts (Reports (audit_report tree given texts)) fault_said
       (λ users subtrees st kept old new result said.
       subst (λ (r : Report). Reports r old new result) (sym (said_of_kept users subtrees st kept)) said.0)
+
+pub said_in : (format : Format) (tree : Reading) (given : List (ℕ × List ℕ)) (texts : List (List ℕ)) (old new : Option (List ℕ))
+    (result : Result ℕ CliFault) → NamedReports (AuditsPairsBy (audit_in format)) tree given texts old new result
+    → Reports (audit_report_in format tree given texts) old new result
+said_in Lines = audit_said
+said_in Json =
+    once_said (pairs_report_by (audit_in Json)) (pairs_take (audit_in Json)) (AuditsPairsBy (audit_in Json))
+    (λ st users subtrees old new result said. said.0)
 
 -- where status 0 means that all are contained against all
 pub means_contained : (answers : State → List Identity → List Names → Option (List ℕ) → Option (List ℕ) → Result ℕ CliFault → Type 0)

@@ -12,7 +12,7 @@ use Rattle.cg_format.specs.declared.fault.TreeFault.{TreeFault}
 use Rattle.cg_format.specs.declared.fault.TreeFault.TheVariants.{NoMemory as TreeNoMemory}
 use Rattle.cg_cli.specs.Arguments.{user_read, path_read}
 use Rattle.cg_cli.specs.Asking.{read_takes_memory, IsMet}
-use Rattle.cg_cli.specs.Containment.{in_call, answer_report, subtree_report, asked_report, check_report}
+use Rattle.cg_cli.specs.Containment.{AnswerText, in_call, answer_report_by, subtree_report, subtree_report_by, asked_report, check_report}
 use Rattle.cg_faults.specs.Faults.{lifted}
 use Rattle.cg_cli.specs.May.{tree_read}
 use Rattle.cg_cli.specs.Reports.{Report, Reports, report_on, takes_memory}
@@ -26,9 +26,10 @@ same_user true found user who is found_is = let never : ⊥ = cc in absurd never
 same_user false None user who is found_is = let never : ⊥ = cc in absurd never
 same_user false (Some one) user who is found_is = let a : one ≡ user = cc in let b : one ≡ who = cc in sym a ∙ b
 
-pub containment_takes : (st : State) (user : Identity) (path : Names) → takes_memory (subtree_report st user path).ending ≡ true
-containment_takes st user path =
-    report_takes (in_call (checked st user path)) (answer_report path) (λ found. refl) (call_takes (checked st user path))
+pub containment_takes : (text : AnswerText) (st : State) (user : Identity) (path : Names)
+    → takes_memory (subtree_report_by text st user path).ending ≡ true
+containment_takes text st user path =
+    report_takes (in_call (checked st user path)) (answer_report_by text path) (λ found. refl) (call_takes (checked st user path))
 
 ok_or_takes : {A : Type 0} (found : Option A) → read_takes_memory (ok_or found BadPath) ≡ true
 ok_or_takes None = refl

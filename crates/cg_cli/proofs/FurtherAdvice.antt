@@ -21,21 +21,19 @@ use Rattle.cg_second.proofs.Judged.{judged}
 use Rattle.cg_second.proofs.Runs.{are_settled}
 use Rattle.cg_check.proofs.Checking.{no_fault}
 use Rattle.cg_check.proofs.Pairs.{none-element}
-use Rattle.cg_advice.specs.AdviceLines.{advice_lines}
 use Rattle.cg_format.specs.Readings.{Reading, IsReading, OnText}
 use Rattle.cg_format.specs.TextOf.{IsTextOf}
-use Rattle.cg_cli.specs.Advising.{lines_report, all_pairs, advice_report}
-use Rattle.cg_cli.specs.Asking.{named_read, IsKeptOnce, NamedReports}
+use Rattle.cg_cli.specs.Advising.{Advice, told_report, all_pairs, advice_report_by}
+use Rattle.cg_cli.specs.Asking.{NamedReports}
 use Rattle.cg_cli.specs.Audits.{users_read, paths_read}
 use Rattle.cg_cli.specs.Containment.{in_call}
 use Rattle.cg_cli.specs.FurtherAdvice.{AreHeldAsNamed, AdvisesFurther}
 use Rattle.cg_cli.specs.May.{tree_read}
 use Rattle.cg_cli.specs.Once.{same_user}
 use Rattle.cg_cli.specs.Reports.{Report, Reports, report_on, takes_memory}
-use Rattle.cg_cli.specs.SettledAdvice.{are_held, settled_lines, settled_advice, settled_report, advise_settled_report}
-use Rattle.cg_cli.proofs.AdviseReports.{each_passes, of_lines, fault_said, said_of_read}
+use Rattle.cg_cli.specs.SettledAdvice.{are_held, settled_by, settled_advice, settled_report, advise_settled_report}
+use Rattle.cg_cli.proofs.AdviseReports.{each_passes, of_text, once_said}
 use Rattle.cg_cli.proofs.AuditOnce.{all_once, by_once}
-use Rattle.cg_cli.proofs.NamedReads.{by_reading}
 use Rattle.cg_cli.proofs.ReportLaws.{call_takes, report_takes}
 use Rattle.cg_faults.specs.declared.fault.CliFault.{CliFault}
 
@@ -55,36 +53,19 @@ module _ (st : State) (users : List Identity) (subtrees : List Names) where
 
 -- ---- what is said
 
-pub settled_takes : (st : State) (users : List Identity) (subtrees : List Names)
-    → takes_memory (settled_report st users subtrees).ending ≡ true
-settled_takes st users subtrees =
-    report_takes (in_call (settled_advice st users subtrees)) lines_report of_lines (call_takes (settled_advice st users subtrees))
+pub settled_takes : (how : Advice) (st : State) (users : List Identity) (subtrees : List Names)
+    → takes_memory (settled_report how st users subtrees).ending ≡ true
+settled_takes how st users subtrees =
+    report_takes (in_call (settled_advice how st users subtrees)) (told_report how.none) (of_text how.none)
+    (call_takes (settled_advice how st users subtrees))
 
--- of users and subtrees each of whom counts once
-abbrev pub once_settled : State → List Identity → List Names → Report
-once_settled st users subtrees = settled_report st (once same_user users) (once same_path subtrees)
-
-pub once_settled_takes : (st : State) (users : List Identity) (subtrees : List Names)
-    → takes_memory (once_settled st users subtrees).ending ≡ true
-once_settled_takes st users subtrees = settled_takes st (once same_user users) (once same_path subtrees)
-
-pub settled_of_kept : (tree : Reading) (given : List (ℕ × List ℕ)) (texts : List (List ℕ)) (users : List Identity) (subtrees : List Names)
-    (st : State) → IsKeptOnce (named_read given texts tree) users subtrees st
-    → advise_settled_report tree given texts ≡ settled_report st users subtrees
-settled_of_kept tree given texts users subtrees st kept =
-    said_of_read once_settled once_settled_takes tree given texts kept.all_users kept.all_subtrees st kept.is
-    ∙ (λ i. settled_report st (sym kept.of_users i) (sym kept.of_subtrees i))
-
-pub settled_said : (tree : Reading) (given : List (ℕ × List ℕ)) (texts : List (List ℕ)) (old new : Option (List ℕ))
+pub settled_said : (how : Advice) (tree : Reading) (given : List (ℕ × List ℕ)) (texts : List (List ℕ)) (old new : Option (List ℕ))
     (result : Result ℕ CliFault)
-    → NamedReports (λ st users subtrees. Reports (settled_report st users subtrees)) tree given texts old new result
-    → Reports (advise_settled_report tree given texts) old new result
-settled_said tree given texts =
-    by_reading (λ st users subtrees. Reports (settled_report st users subtrees)) tree given texts
-    (Reports (advise_settled_report tree given texts))
-    (λ fault met known. fault_said once_settled once_settled_takes tree given texts fault met known (Err fault) refl)
-    (λ users subtrees st kept old new result said.
-    subst (λ (r : Report). Reports r old new result) (sym (settled_of_kept tree given texts users subtrees st kept)) said)
+    → NamedReports (λ st users subtrees. Reports (settled_report how st users subtrees)) tree given texts old new result
+    → Reports (advise_settled_report how tree given texts) old new result
+settled_said how =
+    once_said (settled_report how) (settled_takes how) (λ st users subtrees. Reports (settled_report how st users subtrees))
+    (λ st users subtrees old new result said. said)
 
 -- ---- what may be said
 
@@ -119,53 +100,55 @@ module _ (st : State) (users : List Identity) (subtrees : List Names) (formed : 
         ((are_settled st us ss formed (sub_at st us ss none) rows_hold).held deeds (by_once users subtrees deeds by));
   }
 
-module _ (tree : Reading) (given : List (ℕ × List ℕ)) (texts : List (List ℕ)) (old new : Option (List ℕ)) (result : Result ℕ CliFault)
-    (formed : (st : State) → tree ≡ Ok st → IsWellFormed st) where
+module _ (how : Advice) (tree : Reading) (given : List (ℕ × List ℕ)) (texts : List (List ℕ)) (old new : Option (List ℕ))
+    (result : Result ℕ CliFault) (formed : (st : State) → tree ≡ Ok st → IsWellFormed st) where
   abbrev May : Report → Type 0
-  May guards = Reports guards old new result ⊎ (Reports (lines_report None) old new result × AreHeldAsNamed tree given texts)
+  May guards = Reports guards old new result ⊎ (Reports (told_report how.none None) old new result × AreHeldAsNamed tree given texts)
 
   module _ (users : List Identity) (subtrees : List Names) (st : State) (of_users : users_read given ≡ Ok users)
       (of_paths : paths_read texts ≡ Ok subtrees) (of_tree : tree ≡ Ok st) where
-    abbrev lines : Option (List ℕ)
-    lines = advice_lines st (all_pairs (once same_user users) (once same_path subtrees))
+    abbrev advised : Option (List ℕ)
+    advised = how.some st (all_pairs (once same_user users) (once same_path subtrees))
 
     abbrev settled : Option (List ℕ)
-    settled = settled_lines st (once same_user users) (once same_path subtrees)
+    settled = settled_by how st (once same_user users) (once same_path subtrees)
 
     by_row : (holds : Bool) → are_held st (once same_user users) (once same_path subtrees) ≡ holds
         → first (flat_map (subtree_faults st) (once same_path subtrees)) ≡ None
-        → Reports (lines_report (cond holds None lines)) old new result → May (lines_report lines)
+        → Reports (told_report how.none (cond holds None advised)) old new result → May (told_report how.none advised)
     by_row true holds none said =
         inr (said, held_as_named st users subtrees (formed st of_tree) none holds tree given texts of_users of_paths of_tree)
     by_row false fails none said = inl said
 
     by_fault : (fault : Option CheckFault) → first (flat_map (subtree_faults st) (once same_path subtrees)) ≡ fault
-        → Reports (report_on (in_call (unless_fault fault settled)) lines_report) old new result
-        → May (report_on (in_call (unless_fault fault lines)) lines_report)
+        → Reports (report_on (in_call (unless_fault fault settled)) (told_report how.none)) old new result
+        → May (report_on (in_call (unless_fault fault advised)) (told_report how.none))
     by_fault (Some fault) is said = inl said
     by_fault None is said = by_row (are_held st (once same_user users) (once same_path subtrees)) refl is said
 
   by_read : (users : Result (List Identity) CliFault) (paths : Result (List Names) CliFault) (read : Reading) → users_read given ≡ users
       → paths_read texts ≡ paths → tree ≡ read
-      → Reports (report_on users (λ us. report_on paths (λ ss. report_on (tree_read read) (λ st. once_settled st us ss)))) old new result
+      → Reports (report_on users (λ us. report_on paths (λ ss. report_on (tree_read read)
+      (λ st. settled_report how st (once same_user us) (once same_path ss))))) old new result
       → May (report_on users (λ us. report_on paths (λ ss. report_on (tree_read read)
-      (λ st. advice_report st (once same_path ss) (all_pairs (once same_user us) (once same_path ss))))))
+      (λ st. advice_report_by how st (once same_path ss) (all_pairs (once same_user us) (once same_path ss))))))
   by_read (Err fault) paths read of_users of_paths of_tree said = inl said
   by_read (Ok who) (Err fault) read of_users of_paths of_tree said = inl said
   by_read (Ok who) (Ok tops) (Err fault) of_users of_paths of_tree said = inl said
   by_read (Ok who) (Ok tops) (Ok st) of_users of_paths of_tree said =
       by_fault who tops st of_users of_paths of_tree (first (flat_map (subtree_faults st) (once same_path tops))) refl said
 
-  pub advises_further : Reports (advise_settled_report tree given texts) old new result → AdvisesFurther tree given texts old new result
+  pub advises_further : Reports (advise_settled_report how tree given texts) old new result
+      → AdvisesFurther how tree given texts old new result
   advises_further said = by_read (users_read given) (paths_read texts) tree refl refl refl said
 
 -- of the bytes of a text
-pub further_on : (bytes : List ℕ) (given : List (ℕ × List ℕ)) (texts : List (List ℕ)) (old new : Option (List ℕ))
+pub further_on : (how : Advice) (bytes : List ℕ) (given : List (ℕ × List ℕ)) (texts : List (List ℕ)) (old new : Option (List ℕ))
     (result : Result ℕ CliFault)
-    → OnText bytes (λ read. Reports (advise_settled_report read given texts) old new result)
-    → OnText bytes (λ read. AdvisesFurther read given texts old new result)
-further_on bytes given texts old new result said =
-    (said.0, said.1, advises_further said.0 given texts old new result formed said.2)
+    → OnText bytes (λ read. Reports (advise_settled_report how read given texts) old new result)
+    → OnText bytes (λ read. AdvisesFurther how read given texts old new result)
+further_on how bytes given texts old new result said =
+    (said.0, said.1, advises_further how said.0 given texts old new result formed said.2)
   where
     formed : (st : State) → said.0 ≡ Ok st → IsWellFormed st
     formed st is = let of_text : IsTextOf st bytes = subst (IsReading bytes) is said.1 in of_text.says.formed

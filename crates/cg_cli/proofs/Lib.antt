@@ -16,6 +16,7 @@ pub mod AuditStatus
 pub mod AuditOnce
 mod NamedReads
 mod AuditReports
+mod FormatAdvice
 mod Once
 mod AllPairs
 mod EverybodyReports
@@ -37,5 +38,4 @@ pub mod FoundPlaces
 pub mod Knowing
 pub mod Auditing
 pub mod ListedRows
-pub mod AsJson
 pub mod FormatEndings

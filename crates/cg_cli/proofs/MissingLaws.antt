@@ -8,7 +8,7 @@ use Rattle.cg_model.specs.States.{State}
 use Rattle.cg_format.specs.Readings.{Reading, IsReading}
 use Rattle.text_places.specs.declared.near.Missing.{Missing}
 use Rattle.cg_cli.specs.Arguments.{user_read, pid_read, path_read}
-use Rattle.cg_cli.specs.May.{may_report}
+use Rattle.cg_cli.specs.May.{PermissionText, may_report_by}
 use Rattle.cg_cli.specs.Reports.{Reports}
 use Rattle.cg_cli.specs.Missing.{IsAbsent, IsAbsentFrom}
 use Rattle.cg_cli.proofs.ReportLaws.{same_Ok}
@@ -16,12 +16,12 @@ use Rattle.cg_faults.specs.declared.fault.CliFault.{CliFault}
 use Rattle.cg_faults.specs.declared.fault.CliFault.TheVariants.{NoMemory}
 
 -- A move that is read, and of which memory was refused.
-pub unsaid : (read : Reading) (uid : ℕ) (gids : List ℕ) (pid : ℕ) (to : List ℕ) (user : Identity) (number : ℕ) (path : Names) (st : State)
-    → user_read uid gids ≡ Ok user → pid_read pid ≡ Ok number → path_read to ≡ Ok path → read ≡ Ok st
+pub unsaid : (text : PermissionText) (read : Reading) (uid : ℕ) (gids : List ℕ) (pid : ℕ) (to : List ℕ) (user : Identity) (number : ℕ) (path : Names)
+    (st : State) → user_read uid gids ≡ Ok user → pid_read pid ≡ Ok number → path_read to ≡ Ok path → read ≡ Ok st
     → (known : Option (List ℕ)) (result : Result ℕ CliFault) → result ≡ Err NoMemory
-    → Reports (may_report read uid gids pid to) known known result
-unsaid read uid gids pid to user number path st is_user is_pid is_path is_tree known result refused =
-    subst (λ (r : Result ℕ CliFault). Reports (may_report read uid gids pid to) known known r) (sym refused)
+    → Reports (may_report_by text read uid gids pid to) known known result
+unsaid text read uid gids pid to user number path st is_user is_pid is_path is_tree known result refused =
+    subst (λ (r : Result ℕ CliFault). Reports (may_report_by text read uid gids pid to) known known r) (sym refused)
     (rw (is_user, is_pid, is_path, is_tree) refl, kept known)
   where
     kept : (known : Option (List ℕ)) → Keeps known known

@@ -20,7 +20,7 @@ use Rattle.cg_advice.specs.declared.pair.Pair.{Pair as PairOfBoth}
 use Rattle.cg_format.specs.Readings.{Reading, OnText}
 use Rattle.cg_format.specs.TextOf.{IsTextOf}
 use Rattle.cg_format.proofs.ReadingLaws.{one_reading}
-use Rattle.cg_cli.specs.Advising.{pair_with, paired, advice_report, named_report, advise_pairs_report, named_with, AdvisesNamed, AreContainedAsNamed, IsAdvisable, AreNamed}
+use Rattle.cg_cli.specs.Advising.{Advice, pair_with, paired, advice_report_by, named_report, advise_pairs_report_by, named_with, AdvisesNamedBy, AreContainedAsNamed, IsAdvisable, AreNamed}
 use Rattle.cg_cli.specs.Asking.{read_in_turn, named_read, PairsReport}
 use Rattle.cg_cli.specs.Audits.{users_read, paths_read}
 use Rattle.cg_cli.specs.May.{tree_read}
@@ -193,23 +193,9 @@ advised-as-named st pairs formed can k d within =
 
 -- ---- over bytes
 
-abbrev pub paired_report : State → List Identity → List Names → Report
-paired_report st users subtrees = advice_report st subtrees (paired users subtrees)
-
-pub paired_takes : (st : State) (users : List Identity) (subtrees : List Names)
-    → takes_memory (paired_report st users subtrees).ending ≡ true
-paired_takes st users subtrees = advice_takes st subtrees (paired users subtrees)
-
 pub mapped_again : {A B C : Type 0} (f : B → C) (g : A → B) (xs : List A) → map f (map g xs) ≡ map (λ x. f (g x)) xs
 mapped_again f g [] = refl
 mapped_again f g (x ∷ xs) = ap (λ l. f (g x) ∷ l) (mapped_again f g xs)
-
--- the report of pairs is that of their users and their subtrees
-pub of_lists : (tree : Reading) (pairs : List PairIds) → advise_pairs_report tree (map pair_given pairs)
-    ≡ named_report paired_report tree (map (λ pair. (pair_given pair).0) pairs) (map (λ pair. (pair_given pair).1) pairs)
-of_lists tree pairs =
-    λ i.
-    named_report paired_report tree (mapped_again (λ pair. pair.0) pair_given pairs i) (mapped_again (λ pair. pair.1) pair_given pairs i)
 
 pub named_means : (tree : Reading) (given : List (ℕ × List ℕ)) (texts : List (List ℕ)) (users : List Identity) (subtrees : List Names)
     (st : State) → named_read given texts tree ≡ Ok (users, subtrees, st) → AreContainedAsNamed st (paired users subtrees)
@@ -220,20 +206,36 @@ named_means tree given texts users subtrees st read contained start who paths is
     (same_Ok (users, subtrees, st) (who, paths, start)
     (sym read ∙ (λ i. read_in_turn (is_who i) (are_paths i) (tree_read (is_text i))))) contained
 
-pub advised_said : (tree : Reading) (pairs : List PairIds) (old new : Option (List ℕ)) (result : Result ℕ CliFault)
-    → PairsReport AdvisesNamed tree (map (λ pair. (pair_given pair).0) pairs) (map (λ pair. (pair_given pair).1) pairs) old new result
-    → Reports (advise_pairs_report tree (map pair_given pairs)) old new result
-advised_said tree pairs old new result said =
-    let given = map (λ pair. (pair_given pair).0) pairs in
-    let texts = map (λ pair. (pair_given pair).1) pairs in
-    subst (λ (r : Report). Reports r old new result) (sym (of_lists tree pairs))
-    (by_read (named_read given texts tree) (λ users subtrees st. named_read given texts tree ≡ Ok (users, subtrees, st)) AdvisesNamed
-    (Reports (named_report paired_report tree given texts))
-    (λ fault met known. fault_said paired_report paired_takes tree given texts fault met known (Err fault) refl)
-    (λ users subtrees st is old new result advises.
-    subst (λ (r : Report). Reports r old new result)
-    (sym (said_of_read paired_report paired_takes tree given texts users subtrees st is)) advises.0)
-    old new result said)
+module _ (how : Advice) where
+  abbrev paired_report : State → List Identity → List Names → Report
+  paired_report st users subtrees = advice_report_by how st subtrees (paired users subtrees)
+
+  paired_takes : (st : State) (users : List Identity) (subtrees : List Names)
+      → takes_memory (paired_report st users subtrees).ending ≡ true
+  paired_takes st users subtrees = advice_takes how st subtrees (paired users subtrees)
+
+  -- the report of pairs is that of their users and their subtrees
+  of_lists : (tree : Reading) (pairs : List PairIds) → advise_pairs_report_by how tree (map pair_given pairs)
+      ≡ named_report paired_report tree (map (λ pair. (pair_given pair).0) pairs) (map (λ pair. (pair_given pair).1) pairs)
+  of_lists tree pairs =
+      λ i.
+      named_report paired_report tree (mapped_again (λ pair. pair.0) pair_given pairs i) (mapped_again (λ pair. pair.1) pair_given pairs i)
+
+  pub advised_said : (tree : Reading) (pairs : List PairIds) (old new : Option (List ℕ)) (result : Result ℕ CliFault)
+      → PairsReport (AdvisesNamedBy how) tree (map (λ pair. (pair_given pair).0) pairs) (map (λ pair. (pair_given pair).1) pairs) old new
+      result
+      → Reports (advise_pairs_report_by how tree (map pair_given pairs)) old new result
+  advised_said tree pairs old new result said =
+      let given = map (λ pair. (pair_given pair).0) pairs in
+      let texts = map (λ pair. (pair_given pair).1) pairs in
+      subst (λ (r : Report). Reports r old new result) (sym (of_lists tree pairs))
+      (by_read (named_read given texts tree) (λ users subtrees st. named_read given texts tree ≡ Ok (users, subtrees, st))
+      (AdvisesNamedBy how) (Reports (named_report paired_report tree given texts))
+      (λ fault met known. fault_said paired_report paired_takes tree given texts fault met known (Err fault) refl)
+      (λ users subtrees st is old new result advises.
+      subst (λ (r : Report). Reports r old new result)
+      (sym (said_of_read paired_report paired_takes tree given texts users subtrees st is)) advises.0)
+      old new result said)
 
 -- where status 0 means that each is contained as it is named
 pub contained_said : (answers : State → List Identity → List Names → Option (List ℕ) → Option (List ℕ) → Result ℕ CliFault → Type 0)

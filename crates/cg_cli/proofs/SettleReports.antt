@@ -19,10 +19,10 @@ use Rattle.cg_cli.specs.Settled.{IsSettledSo, IsSettledFrom, IsSettled, IsSettle
 use Rattle.cg_cli.proofs.Settled.{contained-row}
 use Rattle.cg_report.specs.AnswerLines.{IsShown}
 use Rattle.cg_report.proofs.Shown.{answer_is_shown}
-use Rattle.cg_cli.specs.Containment.{in_call, answer_report, subtree_report}
+use Rattle.cg_cli.specs.Containment.{AnswerText, in_call, answer_report, answer_report_by, subtree_report}
 use Rattle.cg_faults.specs.Faults.{lifted_check}
 use Rattle.cg_cli.specs.Reports.{Report, fault_report, takes_memory}
-use Rattle.cg_cli.specs.Settling.{SaysOn, FurtherSays, IsFurther}
+use Rattle.cg_cli.specs.Settling.{SaysOn, FurtherSays, FurtherSaysBy, IsFurther}
 use Rattle.cg_cli.proofs.Asked.{kept_on, more_on}
 
 module _ (st : State) (user : Identity) (subtree : Names) where
@@ -35,32 +35,34 @@ module _ (st : State) (user : Identity) (subtree : Names) where
       (λ b. second_row st (user ∷ []) subtree ≡ b → (found : Answer) × IsSettledSo st user subtree failed found)
       [ true ↦ λ is. (Contained, is) | false ↦ λ is. (Unsettled failed, (is, refl)) ] refl
 
-  abbrev SaysFrom : Answer → Report → Type 0
-  SaysFrom given said = (found : Answer) × IsSettledFrom st user subtree given found × (said ≡ answer_report subtree found)
+  -- however that is written
+  module _ (text : AnswerText) where
+    abbrev SaysFrom : Answer → Report → Type 0
+    SaysFrom given said = (found : Answer) × IsSettledFrom st user subtree given found × (said ≡ answer_report_by text subtree found)
 
-  says_some : (found : Result Answer CheckFault)
-      → (said : Report) × SaysOn (in_call found) SaysFrom said × (takes_memory said.ending ≡ true)
-  says_some (Ok given) =
-      let some = some_settled given in (answer_report subtree some.0, (some.0, some.1, refl), refl)
-  says_some (Err RootSubtree) = (fault_report (lifted_check RootSubtree), refl, refl)
-  says_some (Err NoSuchSubtree) = (fault_report (lifted_check NoSuchSubtree), refl, refl)
-  says_some (Err NoMemory) = (fault_report (lifted_check NoMemory), refl, refl)
+    says_some : (found : Result Answer CheckFault)
+        → (said : Report) × SaysOn (in_call found) SaysFrom said × (takes_memory said.ending ≡ true)
+    says_some (Ok given) =
+        let some = some_settled given in (answer_report_by text subtree some.0, (some.0, some.1, refl), refl)
+    says_some (Err RootSubtree) = (fault_report (lifted_check RootSubtree), refl, refl)
+    says_some (Err NoSuchSubtree) = (fault_report (lifted_check NoSuchSubtree), refl, refl)
+    says_some (Err NoMemory) = (fault_report (lifted_check NoMemory), refl, refl)
 
-  pub settling_takes : (said : Report) × FurtherSays IsSettledFrom st user subtree said × (takes_memory said.ending ≡ true)
-  settling_takes = says_some (checked st user subtree)
+    pub settling_takes : (said : Report) × FurtherSaysBy text IsSettledFrom st user subtree said × (takes_memory said.ending ≡ true)
+    settling_takes = says_some (checked st user subtree)
 
-  pub says_found : (found : Answer) → first (subtree_faults st subtree) ≡ None → IsSettled st user subtree found → (said : Report)
-      → said ≡ answer_report subtree found → FurtherSays IsSettledFrom st user subtree said
-  says_found found none settled said is =
-      subst (λ fault. SaysOn (in_call (unless_fault fault (answer st user subtree))) SaysFrom said) (sym none) (found, settled, is)
+    pub says_found : (found : Answer) → first (subtree_faults st subtree) ≡ None → IsSettled st user subtree found → (said : Report)
+        → said ≡ answer_report_by text subtree found → FurtherSaysBy text IsSettledFrom st user subtree said
+    says_found found none settled said is =
+        subst (λ fault. SaysOn (in_call (unless_fault fault (answer st user subtree))) SaysFrom said) (sym none) (found, settled, is)
 
-  pub says_fault : (fault : CheckFault) → IsSettledFault st subtree fault → fault ≢ NoMemory
-      → FurtherSays IsSettledFrom st user subtree (fault_report (lifted_check fault))
-  says_fault fault (inl memory) other = absurd (other memory)
-  says_fault fault (inr is) other =
-      subst
-      (λ found. SaysOn (in_call (unless_fault found (answer st user subtree))) SaysFrom (fault_report (lifted_check fault)))
-      (sym is) refl
+    pub says_fault : (fault : CheckFault) → IsSettledFault st subtree fault → fault ≢ NoMemory
+        → FurtherSaysBy text IsSettledFrom st user subtree (fault_report (lifted_check fault))
+    says_fault fault (inl memory) other = absurd (other memory)
+    says_fault fault (inr is) other =
+        subst
+        (λ found. SaysOn (in_call (unless_fault found (answer st user subtree))) SaysFrom (fault_report (lifted_check fault)))
+        (sym is) refl
 
   shown_from : (given found : Answer) → IsShown subtree given → IsSettledFrom st user subtree given found → IsShown subtree found
   shown_from Contained found shown is = subst (IsShown subtree) (sym is) tt
@@ -87,11 +89,11 @@ module _ (st : State) (user : Identity) (subtree : Names) where
   unfaulted None stated given is = refl
   unfaulted (Some fault) stated given is = let never : ⊥ = cc in absurd never
 
-  pub further : IsWellFormed st → (said : Report) → FurtherSays IsSettledFrom st user subtree said
-      → FurtherSays IsFurther st user subtree said
-  further formed =
-      more_on (in_call (checked st user subtree)) SaysFrom
-      (λ given said. (found : Answer) × IsFurther st user subtree given found × (said ≡ answer_report subtree found))
+  pub further : (text : AnswerText) → IsWellFormed st → (said : Report) → FurtherSaysBy text IsSettledFrom st user subtree said
+      → FurtherSaysBy text IsFurther st user subtree said
+  further text formed =
+      more_on (in_call (checked st user subtree)) (SaysFrom text)
+      (λ given said. (found : Answer) × IsFurther st user subtree given found × (said ≡ answer_report_by text subtree found))
       (λ given is said found. (
         found.0,
         goes_further formed

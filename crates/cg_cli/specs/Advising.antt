@@ -25,10 +25,21 @@ use Rattle.cg_faults.specs.declared.fault.CliFault.{CliFault}
 abbrev pub contained_line : List ℕ
 contained_line = codes "contained\n"
 
--- contained where there is nothing to change, with status 0, and else the lines with status 1
+-- how the advice is written: that nothing is to be changed, and for pairs what is, where something is
+pub record Advice : Type 0 where
+  pub none : List ℕ
+  pub some : State → List Pair → Option (List ℕ)
+
+abbrev pub as_lines : Advice
+as_lines = record { none = contained_line; some = advice_lines }
+
+-- that nothing is to be changed, with status 0, and else what is, with status 1
+abbrev pub told_report : List ℕ → Option (List ℕ) → Report
+told_report none None = record { text = none; ending = Ok 0 }
+told_report none (Some text) = record { text = text; ending = Ok 1 }
+
 abbrev pub lines_report : Option (List ℕ) → Report
-lines_report None = record { text = contained_line; ending = Ok 0 }
-lines_report (Some lines) = record { text = lines; ending = Ok 1 }
+lines_report found = told_report contained_line found
 
 abbrev pub pair_with : Identity → Names → Pair
 pair_with user subtree = record { user = user; subtree = subtree }
@@ -44,16 +55,22 @@ paired (user ∷ users) [] = []
 paired (user ∷ users) (subtree ∷ subtrees) = pair_with user subtree ∷ paired users subtrees
 
 -- the first fault of the subtrees, in the order of their list, or the advice for pairs
+abbrev pub advised_by : Advice → State → List Names → List Pair → Result (Option (List ℕ)) CheckFault
+advised_by how st subtrees pairs = unless_fault (first (flat_map (subtree_faults st) subtrees)) (how.some st pairs)
+
 abbrev pub advised : State → List Names → List Pair → Result (Option (List ℕ)) CheckFault
-advised st subtrees pairs = unless_fault (first (flat_map (subtree_faults st) subtrees)) (advice_lines st pairs)
+advised st subtrees pairs = advised_by as_lines st subtrees pairs
+
+abbrev pub advice_report_by : Advice → State → List Names → List Pair → Report
+advice_report_by how st subtrees pairs = report_on (in_call (advised_by how st subtrees pairs)) (told_report how.none)
 
 abbrev pub advice_report : State → List Names → List Pair → Report
-advice_report st subtrees pairs = report_on (in_call (advised st subtrees pairs)) lines_report
+advice_report st subtrees pairs = advice_report_by as_lines st subtrees pairs
 
 -- That of every user with every subtree is written, and status 0 means that all are contained against all.
-abbrev pub AdvisesPairs : State → List Identity → List Names → Option (List ℕ) → Option (List ℕ) → Result ℕ CliFault → Type 0
-AdvisesPairs st users subtrees old new result =
-    Reports (advice_report st subtrees (all_pairs users subtrees)) old new result
+abbrev pub AdvisesPairsBy : Advice → State → List Identity → List Names → Option (List ℕ) → Option (List ℕ) → Result ℕ CliFault → Type 0
+AdvisesPairsBy how st users subtrees old new result =
+    Reports (advice_report_by how st subtrees (all_pairs users subtrees)) old new result
     × (result ≡ Ok 0 → users ≢ [] → AreContained st users subtrees)
 
 -- What is said of users and subtrees once they, a tree's text and the subtrees are read: all users are looked at first, each with
@@ -65,16 +82,22 @@ named_report report tree given texts =
     report_on (tree_read tree) (λ st. report st users subtrees)))
 
 -- Every user with every subtree. Who and what is named again counts once.
-abbrev pub advise_report : Reading → List (ℕ × List ℕ) → List (List ℕ) → Report
-advise_report tree given texts =
+abbrev pub advise_report_by : Advice → Reading → List (ℕ × List ℕ) → List (List ℕ) → Report
+advise_report_by how tree given texts =
     named_report (λ st users subtrees.
-    advice_report st (once same_path subtrees) (all_pairs (once same_user users) (once same_path subtrees))) tree given texts
+    advice_report_by how st (once same_path subtrees) (all_pairs (once same_user users) (once same_path subtrees))) tree given texts
+
+abbrev pub advise_report : Reading → List (ℕ × List ℕ) → List (List ℕ) → Report
+advise_report tree given texts = advise_report_by as_lines tree given texts
 
 -- Pairs of a user and a subtree, each as it is named. A pair that is named again changes nothing.
-abbrev pub advise_pairs_report : Reading → List ((ℕ × List ℕ) × List ℕ) → Report
-advise_pairs_report tree given =
-    named_report (λ st users subtrees. advice_report st subtrees (paired users subtrees)) tree
+abbrev pub advise_pairs_report_by : Advice → Reading → List ((ℕ × List ℕ) × List ℕ) → Report
+advise_pairs_report_by how tree given =
+    named_report (λ st users subtrees. advice_report_by how st subtrees (paired users subtrees)) tree
     (map (λ pair. pair.0) given) (map (λ pair. pair.1) given)
+
+abbrev pub advise_pairs_report : Reading → List ((ℕ × List ℕ) × List ℕ) → Report
+advise_pairs_report tree given = advise_pairs_report_by as_lines tree given
 
 -- the users named with a subtree
 abbrev pub named_with : List Pair → Names → List Identity
@@ -85,9 +108,9 @@ abbrev pub AreContainedAsNamed : State → List Pair → Type 0
 AreContainedAsNamed st pairs = All (λ pair. AreContained st (named_with pairs pair.subtree) (pair.subtree ∷ [])) pairs
 
 -- The advice for those that stand at the same place is written, and status 0 means that they are contained as they are.
-abbrev pub AdvisesNamed : State → List Identity → List Names → Option (List ℕ) → Option (List ℕ) → Result ℕ CliFault → Type 0
-AdvisesNamed st users subtrees old new result =
-    Reports (advice_report st subtrees (paired users subtrees)) old new result
+abbrev pub AdvisesNamedBy : Advice → State → List Identity → List Names → Option (List ℕ) → Option (List ℕ) → Result ℕ CliFault → Type 0
+AdvisesNamedBy how st users subtrees old new result =
+    Reports (advice_report_by how st subtrees (paired users subtrees)) old new result
     × (result ≡ Ok 0 → AreContainedAsNamed st (paired users subtrees))
 
 -- A user who isn't root, and a subtree whose counts are numbers that its limits may have.

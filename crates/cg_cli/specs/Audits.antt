@@ -37,19 +37,30 @@ abbrev pub audit_status : AllAnswer → ℕ
 audit_status Contained = 0
 audit_status (Pair user subtree answer) = answer_status answer
 
+-- how an answer for several is written
+abbrev pub AuditText : Type 0
+AuditText = List Identity → List Names → AllAnswer → List ℕ
+
+abbrev pub audit_answer_report_by : AuditText → List Identity → List Names → AllAnswer → Report
+audit_answer_report_by text users subtrees found =
+    record { text = text users subtrees found; ending = Ok (audit_status found) }
+
 abbrev pub audit_answer_report : List Identity → List Names → AllAnswer → Report
-audit_answer_report users subtrees found =
-    record { text = audit_text users subtrees found; ending = Ok (audit_status found) }
+audit_answer_report users subtrees found = audit_answer_report_by audit_text users subtrees found
 
 -- The first fault of the subtrees, in the order of their list, or the answer for all pairs.
+abbrev pub pairs_report_by : AuditText → State → List Identity → List Names → Report
+pairs_report_by text st users subtrees =
+    report_on (in_call (all_checked st users subtrees)) (audit_answer_report_by text users subtrees)
+
 abbrev pub pairs_report : State → List Identity → List Names → Report
-pairs_report st users subtrees =
-    report_on (in_call (all_checked st users subtrees)) (audit_answer_report users subtrees)
+pairs_report st users subtrees = pairs_report_by audit_text st users subtrees
 
 -- That is written, and status 0 means that all are contained against all.
-abbrev pub AuditsPairs : State → List Identity → List Names → Option (List ℕ) → Option (List ℕ) → Result ℕ CliFault → Type 0
-AuditsPairs st users subtrees old new result =
-    Reports (pairs_report st users subtrees) old new result × (result ≡ Ok 0 → users ≢ [] → AreContained st users subtrees)
+abbrev pub AuditsPairsBy : AuditText → State → List Identity → List Names → Option (List ℕ) → Option (List ℕ) → Result ℕ CliFault → Type 0
+AuditsPairsBy text st users subtrees old new result =
+    Reports (pairs_report_by text st users subtrees) old new result
+    × (result ≡ Ok 0 → users ≢ [] → AreContained st users subtrees)
 
 -- All users are looked at first, each with their uid before their gids; then all paths, the tree's text, and whether the
 -- subtrees are ones that can be checked.

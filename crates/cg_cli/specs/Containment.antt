@@ -28,12 +28,22 @@ answer_status Contained = 0
 answer_status (Escapes ops) = 1
 answer_status (Unsettled failed) = 2
 
+-- how an answer on a subtree is written
+abbrev pub AnswerText : Type 0
+AnswerText = Names → Answer → List ℕ
+
+abbrev pub answer_report_by : AnswerText → Names → Answer → Report
+answer_report_by text subtree found = record { text = text subtree found; ending = Ok (answer_status found) }
+
 abbrev pub answer_report : Names → Answer → Report
-answer_report subtree found = record { text = answer_text subtree found; ending = Ok (answer_status found) }
+answer_report subtree found = answer_report_by answer_text subtree found
 
 -- The fault of the subtree, or the answer.
+abbrev pub subtree_report_by : AnswerText → State → Identity → Names → Report
+subtree_report_by text st user subtree = report_on (in_call (checked st user subtree)) (answer_report_by text subtree)
+
 abbrev pub subtree_report : State → Identity → Names → Report
-subtree_report st user subtree = report_on (in_call (checked st user subtree)) (answer_report subtree)
+subtree_report st user subtree = subtree_report_by answer_text st user subtree
 
 -- The user is looked at first, then the path, the tree's text, and whether the subtree is one that can be checked.
 abbrev pub asked_report : (State → Identity → Names → Report) → Reading → ℕ → List ℕ → List ℕ → Report
@@ -42,8 +52,11 @@ asked_report report tree uid gids subtree =
     report_on (path_read subtree) (λ path.
     report_on (tree_read tree) (λ st. report st user path)))
 
+abbrev pub check_report_by : AnswerText → Reading → ℕ → List ℕ → List ℕ → Report
+check_report_by text tree uid gids subtree = asked_report (subtree_report_by text) tree uid gids subtree
+
 abbrev pub check_report : Reading → ℕ → List ℕ → List ℕ → Report
-check_report tree uid gids subtree = asked_report subtree_report tree uid gids subtree
+check_report tree uid gids subtree = check_report_by answer_text tree uid gids subtree
 
 -- Status 0 means contained: whichever state the text is of, what the path names there is contained against the user.
 abbrev pub MeansContained : List ℕ → ℕ → List ℕ → List ℕ → Result ℕ CliFault → Type 0

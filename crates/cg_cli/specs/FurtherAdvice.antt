@@ -8,7 +8,7 @@ use Rattle.cg_model.specs.Guards.{IsSubtree}
 use Rattle.cg_model.specs.Steps.{Deed}
 use Rattle.cg_model.specs.Held.{IsHeld, AreBy}
 use Rattle.cg_format.specs.Readings.{Reading}
-use Rattle.cg_cli.specs.Advising.{lines_report, advise_report}
+use Rattle.cg_cli.specs.Advising.{Advice, told_report, advise_report_by}
 use Rattle.cg_cli.specs.Audits.{users_read, paths_read}
 use Rattle.cg_cli.specs.Reports.{Reports}
 use Rattle.cg_faults.specs.declared.fault.CliFault.{CliFault}
@@ -29,6 +29,8 @@ pub record AreHeldAsNamed (tree : Reading) (given : List (ℕ × List ℕ)) (tex
   pub held : AreHeld state users subtrees
 
 -- What is advised where guards alone are asked; or that nothing is to be changed, where all are held.
-abbrev pub AdvisesFurther : Reading → List (ℕ × List ℕ) → List (List ℕ) → Option (List ℕ) → Option (List ℕ) → Result ℕ CliFault → Type 0
-AdvisesFurther tree given texts old new result =
-    Reports (advise_report tree given texts) old new result ⊎ (Reports (lines_report None) old new result × AreHeldAsNamed tree given texts)
+abbrev pub AdvisesFurther : Advice → Reading → List (ℕ × List ℕ) → List (List ℕ) → Option (List ℕ) → Option (List ℕ) → Result ℕ CliFault
+    → Type 0
+AdvisesFurther how tree given texts old new result =
+    Reports (advise_report_by how tree given texts) old new result
+    ⊎ (Reports (told_report how.none None) old new result × AreHeldAsNamed tree given texts)

@@ -30,4 +30,3 @@ pub mod Formats
 pub mod EachPair
 pub mod SettledPairs
 pub mod SettledRows
-pub mod AsJson

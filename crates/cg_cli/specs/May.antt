@@ -16,25 +16,39 @@ use Rattle.cg_cli.specs.Arguments.{user_read, pid_read, path_read}
 use Rattle.cg_cli.specs.Reports.{Report, report_on}
 use Rattle.cg_faults.specs.declared.fault.CliFault.{CliFault}
 
--- what is written of an operation that may be barred, and the status: 0 where nothing bars it, else 1
-abbrev pub permission : Op → Option Refusal → List ℕ × ℕ
-permission op None = (codes "granted\n", 0)
-permission op (Some bar) = (outcome_text op (Refused bar), 1)
+-- how it is written what bars an operation, or that nothing does
+abbrev pub PermissionText : Type 0
+PermissionText = Op → Option Refusal → List ℕ
+
+abbrev pub permission_text : PermissionText
+permission_text op None = codes "granted\n"
+permission_text op (Some bar) = outcome_text op (Refused bar)
+
+-- 0 where nothing bars it, else 1
+abbrev pub permission_status : Option Refusal → ℕ
+permission_status None = 0
+permission_status (Some bar) = 1
 
 -- Delegation Containment: granted exactly where nothing bars the move, else refused for the first bar.
+abbrev pub move_report_by : PermissionText → State → Identity → ℕ → Names → Report
+move_report_by text st user pid to =
+    let bar : Option Refusal = first (bars st user (Move pid to)) in
+    record { text = text (Move pid to) bar; ending = Ok (permission_status bar) }
+
 abbrev pub move_report : State → Identity → ℕ → Names → Report
-move_report st user pid to =
-    let said : List ℕ × ℕ = permission (Move pid to) (first (bars st user (Move pid to))) in
-    record { text = said.0; ending = Ok said.1 }
+move_report st user pid to = move_report_by permission_text st user pid to
 
 -- what a text is read as, with its fault as that of a call
 abbrev pub tree_read : Reading → Result State CliFault
 tree_read tree = elim tree [ Ok st ↦ Ok st | Err fault ↦ Err (lifted fault) ]
 
 -- The arguments are looked at in the order of uid, gids, PID and path, and then the tree's text.
-abbrev pub may_report : Reading → ℕ → List ℕ → ℕ → List ℕ → Report
-may_report tree uid gids pid to =
+abbrev pub may_report_by : PermissionText → Reading → ℕ → List ℕ → ℕ → List ℕ → Report
+may_report_by text tree uid gids pid to =
     report_on (user_read uid gids) (λ user.
     report_on (pid_read pid) (λ number.
     report_on (path_read to) (λ path.
-    report_on (tree_read tree) (λ st. move_report st user number path))))
+    report_on (tree_read tree) (λ st. move_report_by text st user number path))))
+
+abbrev pub may_report : Reading → ℕ → List ℕ → ℕ → List ℕ → Report
+may_report tree uid gids pid to = may_report_by permission_text tree uid gids pid to

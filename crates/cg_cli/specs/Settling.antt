@@ -9,9 +9,10 @@ use Rattle.cg_model.specs.declared.answer.Answer.{Answer}
 use Rattle.cg_model.specs.declared.answer.Answer.TheVariants.{Contained, Escapes, Unsettled}
 use Rattle.cg_format.specs.Readings.{Reading}
 use Rattle.cg_lines.specs.OperationLines.{HaveLines}
+use Rattle.cg_report.specs.AnswerLines.{answer_text}
 use Rattle.cg_cli.specs.Arguments.{user_read, path_read}
 use Rattle.cg_cli.specs.May.{tree_read}
-use Rattle.cg_cli.specs.Containment.{in_call, answer_report}
+use Rattle.cg_cli.specs.Containment.{AnswerText, in_call, answer_report_by}
 use Rattle.cg_cli.specs.Reports.{Said, Report, Reports, fault_report}
 use Rattle.cg_faults.specs.declared.fault.CliFault.{CliFault}
 use Rattle.cg_cgroup.specs.Files.{vocabulary_of}
@@ -33,10 +34,13 @@ abbrev pub AskedReports : (State → Identity → Names → Report → Type 0) �
 AskedReports says tree uid gids subtree old new result = (said : Report) × AskedSays says tree uid gids subtree said × Reports said old new result
 
 -- The fault of the subtree, or an answer that follows from what check answers.
-abbrev pub FurtherSays : (State → Identity → Names → Answer → Answer → Type 0) → State → Identity → Names → Report → Type 0
-FurtherSays follows st user subtree =
+abbrev pub FurtherSaysBy : AnswerText → (State → Identity → Names → Answer → Answer → Type 0) → State → Identity → Names → Report → Type 0
+FurtherSaysBy text follows st user subtree =
     SaysOn (in_call (checked st user subtree))
-    (λ given said. (found : Answer) × follows st user subtree given found × (said ≡ answer_report subtree found))
+    (λ given said. (found : Answer) × follows st user subtree given found × (said ≡ answer_report_by text subtree found))
+
+abbrev pub FurtherSays : (State → Identity → Names → Answer → Answer → Type 0) → State → Identity → Names → Report → Type 0
+FurtherSays follows st user subtree said = FurtherSaysBy answer_text follows st user subtree said
 
 -- What check answers; but where that is unsettled, contained where the subtree is, or a list that breaks it, whose lines can
 -- be replayed.

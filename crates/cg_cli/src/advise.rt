@@ -1,25 +1,29 @@
 //! What to change so that every subtree is contained against every user.
 ghost use Rattle.std.specs.Prelude.{◌≡◌, ◌≢◌, ◌++◌, List, [], map, Ok, Err, None, IfOk, OnOk, IsOk, MatchResult};
-ghost use Rattle.std.specs.List.{flat_map};
+ghost use Rattle.std.specs.List.{All, flat_map};
 ghost use Rattle.std.specs.Option.{option_map};
 ghost use Rattle.cg_cgroup.specs.Identity.{Identity};
 ghost use Rattle.cg_cgroup.specs.Paths.{Names};
 ghost use Rattle.cg_model.specs.States.{State};
+ghost use Rattle.cg_model.specs.Guards.{IsSubtree};
 ghost use Rattle.cg_model.specs.Clauses.{first};
 ghost use Rattle.cg_model.specs.Checks.{subtree_faults};
 ghost use Rattle.cg_model.specs.Several.{AreContained};
 ghost use Rattle.cg_format.specs.Readings.{OnText};
 ghost use Rattle.cg_format.specs.TextOf.{IsTextOf};
-ghost use Rattle.cg_advice.specs.AdviceLines.{advice_lines};
 ghost use Rattle.cg_advice.specs.Ways.{pair_of};
-ghost use Rattle.cg_cli.specs.Advising.{contained_line, lines_report, pair_with, all_pairs, advised, advice_report, AdvisesPairs, advise_report};
+ghost use Rattle.cg_cli.specs.Advising.{contained_line, told_report, pair_with, all_pairs, advised_by, advice_report_by, AdvisesPairsBy, advise_report, advise_report_by};
 ghost use Rattle.cg_cli.specs.Audits.{users_read, paths_read};
+ghost use Rattle.cg_cli.specs.Formats.{changes_in, advice_in};
 ghost use Rattle.cg_cli.specs.Reports.{Reports};
 ghost use Rattle.cg_cli.specs.Strangers.{IsFirstStranger};
 
 use crate::arguments::UserIds;
+use crate::audit_all::none_text;
+use crate::format::Format;
 use crate::named_question::{NamedQuestion, ask_named};
 use crate::report::write_said;
+use cg_advice::found;
 use cg_advice::pair::Pair;
 use cg_advice::text::advice_lines;
 use cg_cgroup::memory::NoMemory;
@@ -28,6 +32,7 @@ use cg_cgroup::user::User;
 use cg_check::{first_fault, from_first_unguarded};
 use cg_faults::fault::CliFault;
 use cg_guards::identities::Identities;
+use cg_json::advice::failing_json;
 use cg_model::fault::CheckFault;
 use cg_model::hierarchy::Hierarchy;
 use std::alloc::Global;
@@ -58,15 +63,50 @@ pub fn advise_bytes<W: Write>(
         → paths_read (map (λ subtree. subtree.now) subtrees.now) ≡ Ok paths → who ≢ [] → AreContained st who paths }
     ensures stranger { IsFirstStranger tree.now (map (λ user. (user.uid, user.gids.now)) users.now) result stranger.new }
 {
-    ask_named(alloc, &Changes, tree, users, subtrees, stranger, out)
+    advise_bytes_in(
+        alloc,
+        Format::Lines,
+        tree,
+        users,
+        subtrees,
+        stranger,
+        out,
+    )
 }
 
-/// What to change.
+/// The same, written as a format says: as JSON, the object of that advice, which reads as it.
+///
+/// # Errors
+/// Those of `advise_bytes`.
+pub fn advise_bytes_in<W: Write>(
+    alloc: Global,
+    format: Format,
+    tree: &[u8],
+    users: &[UserIds<'_>],
+    subtrees: &[&str],
+    stranger: &mut Option<u32>,
+    out: &mut W,
+) -> Result<u8, CliFault>
+    ensures report { OnText tree.now (λ read. Reports (advise_report_by (advice_in format) read
+        (map (λ user. (user.uid, user.gids.now)) users.now) (map (λ subtree. subtree.now) subtrees.now))
+        (W.contents out.old) (W.contents out.new) result) }
+    ensures contained { result ≡ Ok 0 → (st : State) (who : List Identity) (paths : List Names)
+        → IsTextOf st tree.now → users_read (map (λ user. (user.uid, user.gids.now)) users.now) ≡ Ok who
+        → paths_read (map (λ subtree. subtree.now) subtrees.now) ≡ Ok paths → who ≢ [] → AreContained st who paths }
+    ensures stranger { IsFirstStranger tree.now (map (λ user. (user.uid, user.gids.now)) users.now) result stranger.new }
+{
+    let asked = Changes { format };
+    ask_named(alloc, &asked, tree, users, subtrees, stranger, out)
+}
+
+/// What to change, and how that is written.
 #[derive(Drop)]
-struct Changes;
+struct Changes {
+    format: Format,
+}
 
 impl NamedQuestion for Changes {
-    ghost answers = { λ _. AdvisesPairs };
+    ghost answers = { λ asked. AdvisesPairsBy (advice_in asked.format) };
 
     fn answer<H: Hierarchy + Drop, W: Write>(
         &self,
@@ -76,7 +116,7 @@ impl NamedQuestion for Changes {
         subtrees: &[Path],
         out: &mut W,
     ) -> Result<u8, CliFault> {
-        let said = advised(alloc, tree, users, subtrees)?;
+        let said = advised(alloc, tree, users, subtrees, self.format)?;
         write_said(out, said)
     }
 }
@@ -87,17 +127,20 @@ fn advised<H: Hierarchy + Drop>(
     tree: &H,
     users: &[User],
     subtrees: &[Path],
+    format: Format,
 ) -> Result<(Vec<u8>, u8), CheckFault>
     ensures said { MatchResult result
-        (λ said. advice_report (H.state tree.now) subtrees.now (all_pairs users.now subtrees.now) ≡ record { text = said.0.items; ending = Ok said.1 })
-        (λ fault. fault ≢ CheckFault.NoMemory → advised (H.state tree.now) subtrees.now (all_pairs users.now subtrees.now) ≡ Err fault) }
+        (λ said. advice_report_by (advice_in format) (H.state tree.now) subtrees.now (all_pairs users.now subtrees.now)
+        ≡ record { text = said.0.items; ending = Ok said.1 })
+        (λ fault. fault ≢ CheckFault.NoMemory
+        → advised_by (advice_in format) (H.state tree.now) subtrees.now (all_pairs users.now subtrees.now) ≡ Err fault) }
     ensures contained { IfOk result (λ said. said.1 ≡ 0 → users.now ≢ []
         → AreContained (H.state tree.now) users.now subtrees.now) }
 {
     if let Some(fault) = first_fault(tree, subtrees) {
         return Err(fault);
     }
-    match said_of(alloc, advice(alloc, tree, users, subtrees)) {
+    match said_of(alloc, advice(alloc, tree, users, subtrees, format), format) {
         Err(NoMemory) => Err(CheckFault::NoMemory),
         Ok(said) => Ok(said),
     }
@@ -107,15 +150,16 @@ fn advised<H: Hierarchy + Drop>(
 pub(crate) fn said_of(
     alloc: Global,
     found: Result<Option<Vec<u8>>, NoMemory>,
+    format: Format,
 ) -> Result<(Vec<u8>, u8), NoMemory>
-    ensures said { IfOk result (λ said. IfOk found (λ found. lines_report (option_map (λ text. text.items) found)
+    ensures said { IfOk result (λ said. IfOk found (λ found. told_report (advice_in format).none (option_map (λ text. text.items) found)
         ≡ record { text = said.0.items; ending = Ok said.1 })) }
     ensures found { IsOk result → IsOk found }
     ensures contained { IfOk result (λ said. said.1 ≡ 0 → IfOk found (λ found. found ≡ None)) }
 {
     match found? {
-        Some(lines) => Ok((lines, 1)),
-        None => Ok((contained_line(alloc)?, 0)),
+        Some(text) => Ok((text, 1)),
+        None => Ok((none_text(alloc, format)?, 0)),
     }
 }
 
@@ -125,10 +169,11 @@ pub(crate) fn advice<H: Hierarchy>(
     tree: &H,
     users: &[User],
     subtrees: &[Path],
+    format: Format,
 ) -> Result<Option<Vec<u8>>, NoMemory>
     requires { first (flat_map (subtree_faults (H.state tree.now)) subtrees.now) ≡ None }
     ensures { IfOk result (λ found. option_map (λ text. text.items) found
-        ≡ advice_lines (H.state tree.now) (all_pairs users.now subtrees.now)) }
+        ≡ changes_in format (H.state tree.now) (all_pairs users.now subtrees.now)) }
 {
     let identities = Identities::of(alloc, users)?;
     let left = from_first_unguarded(tree, users, Some(&identities), subtrees);
@@ -136,7 +181,42 @@ pub(crate) fn advice<H: Hierarchy>(
         return Ok(None);
     }
     let pairs = all_pairs(alloc, users, subtrees)?;
-    advice_lines(alloc, tree, pairs.as_slice())
+    advice_of(alloc, tree, pairs.as_slice(), format)
+}
+
+/// The advice for pairs.
+pub(crate) fn advice_of<H: Hierarchy>(
+    alloc: Global,
+    tree: &H,
+    pairs: &[Pair<'_>],
+    format: Format,
+) -> Result<Option<Vec<u8>>, NoMemory>
+    requires { All (λ pair. IsSubtree (H.state tree.now) pair.subtree.now) pairs.now }
+    ensures { IfOk result (λ found. option_map (λ text. text.items) found ≡ changes_in format (H.state tree.now) (map pair_of pairs.now)) }
+{
+    match format {
+        Format::Lines => advice_lines(alloc, tree, pairs),
+        Format::Json => advice_object(alloc, tree, pairs),
+    }
+}
+
+/// The object of the advice for pairs.
+fn advice_object<H: Hierarchy>(
+    alloc: Global,
+    tree: &H,
+    pairs: &[Pair<'_>],
+) -> Result<Option<Vec<u8>>, NoMemory>
+    requires { All (λ pair. IsSubtree (H.state tree.now) pair.subtree.now) pairs.now }
+    ensures { IfOk result (λ found. option_map (λ text. text.items) found
+        ≡ changes_in Format.Json (H.state tree.now) (map pair_of pairs.now)) }
+{
+    match found::advice(alloc, tree, pairs)? {
+        None => Ok(None),
+        Some(found) => {
+            let text = failing_json(alloc, found.stands.as_slice(), found.overs.as_slice())?;
+            Ok(Some(text))
+        }
+    }
 }
 
 /// Every user with every subtree.

@@ -9,17 +9,17 @@ ghost use Rattle.cg_model.specs.Clauses.{first};
 ghost use Rattle.cg_model.specs.Checks.{subtree_faults};
 ghost use Rattle.cg_format.specs.Readings.{OnText};
 ghost use Rattle.cg_format.specs.TextOf.{IsTextOf};
-ghost use Rattle.cg_advice.specs.AdviceLines.{advice_lines};
-ghost use Rattle.cg_cli.specs.Advising.{paired, advised, advice_report, advise_pairs_report, AdvisesNamed, AreContainedAsNamed};
+ghost use Rattle.cg_cli.specs.Advising.{paired, advised_by, advice_report_by, advise_pairs_report, advise_pairs_report_by, AdvisesNamedBy, AreContainedAsNamed};
 ghost use Rattle.cg_cli.specs.Audits.{users_read, paths_read};
+ghost use Rattle.cg_cli.specs.Formats.{changes_in, advice_in};
 ghost use Rattle.cg_cli.specs.Pairs.{pair_given};
 ghost use Rattle.cg_cli.specs.Reports.{Reports};
 
-use crate::advise::said_of;
+use crate::advise::{advice_of, said_of};
+use crate::format::Format;
 use crate::named_question::NamedQuestion;
 use crate::pairs::{PairIds, ask_pairs, paired};
 use crate::report::write_said;
-use cg_advice::text::advice_lines;
 use cg_cgroup::memory::NoMemory;
 use cg_cgroup::path::Path;
 use cg_cgroup::user::User;
@@ -47,15 +47,38 @@ pub fn advise_pairs_bytes<W: Write>(
         → IsTextOf st tree.now → users_read (map (λ pair. (pair_given pair).0) pairs.now) ≡ Ok who
         → paths_read (map (λ pair. (pair_given pair).1) pairs.now) ≡ Ok paths → AreContainedAsNamed st (paired who paths) }
 {
-    ask_pairs(alloc, &NamedChanges, tree, pairs, out)
+    advise_pairs_bytes_in(alloc, Format::Lines, tree, pairs, out)
 }
 
-/// What to change, of users and subtrees that stand at the same place.
+/// The same, written as a format says: as JSON, the object of that advice, which reads as it.
+///
+/// # Errors
+/// Those of `advise_bytes`.
+pub fn advise_pairs_bytes_in<W: Write>(
+    alloc: Global,
+    format: Format,
+    tree: &[u8],
+    pairs: &[PairIds<'_>],
+    out: &mut W,
+) -> Result<u8, CliFault>
+    ensures report { OnText tree.now (λ read. Reports (advise_pairs_report_by (advice_in format) read (map pair_given pairs.now))
+        (W.contents out.old) (W.contents out.new) result) }
+    ensures contained { result ≡ Ok 0 → (st : State) (who : List Identity) (paths : List Names)
+        → IsTextOf st tree.now → users_read (map (λ pair. (pair_given pair).0) pairs.now) ≡ Ok who
+        → paths_read (map (λ pair. (pair_given pair).1) pairs.now) ≡ Ok paths → AreContainedAsNamed st (paired who paths) }
+{
+    let asked = NamedChanges { format };
+    ask_pairs(alloc, &asked, tree, pairs, out)
+}
+
+/// What to change, of users and subtrees that stand at the same place, and how that is written.
 #[derive(Drop)]
-struct NamedChanges;
+struct NamedChanges {
+    format: Format,
+}
 
 impl NamedQuestion for NamedChanges {
-    ghost answers = { λ _. AdvisesNamed };
+    ghost answers = { λ asked. AdvisesNamedBy (advice_in asked.format) };
 
     fn answer<H: Hierarchy + Drop, W: Write>(
         &self,
@@ -65,7 +88,7 @@ impl NamedQuestion for NamedChanges {
         subtrees: &[Path],
         out: &mut W,
     ) -> Result<u8, CliFault> {
-        let said = advised(alloc, tree, users, subtrees)?;
+        let said = advised(alloc, tree, users, subtrees, self.format)?;
         write_said(out, said)
     }
 }
@@ -76,17 +99,20 @@ fn advised<H: Hierarchy + Drop>(
     tree: &H,
     users: &[User],
     subtrees: &[Path],
+    format: Format,
 ) -> Result<(Vec<u8>, u8), CheckFault>
     ensures said { MatchResult result
-        (λ said. advice_report (H.state tree.now) subtrees.now (paired users.now subtrees.now) ≡ record { text = said.0.items; ending = Ok said.1 })
-        (λ fault. fault ≢ CheckFault.NoMemory → advised (H.state tree.now) subtrees.now (paired users.now subtrees.now) ≡ Err fault) }
+        (λ said. advice_report_by (advice_in format) (H.state tree.now) subtrees.now (paired users.now subtrees.now)
+        ≡ record { text = said.0.items; ending = Ok said.1 })
+        (λ fault. fault ≢ CheckFault.NoMemory
+        → advised_by (advice_in format) (H.state tree.now) subtrees.now (paired users.now subtrees.now) ≡ Err fault) }
     ensures contained { IfOk result (λ said. said.1 ≡ 0
         → AreContainedAsNamed (H.state tree.now) (paired users.now subtrees.now)) }
 {
     if let Some(fault) = first_fault(tree, subtrees) {
         return Err(fault);
     }
-    match said_of(alloc, advice(alloc, tree, users, subtrees)) {
+    match said_of(alloc, advice(alloc, tree, users, subtrees, format), format) {
         Err(NoMemory) => Err(CheckFault::NoMemory),
         Ok(said) => Ok(said),
     }
@@ -98,11 +124,12 @@ fn advice<H: Hierarchy>(
     tree: &H,
     users: &[User],
     subtrees: &[Path],
+    format: Format,
 ) -> Result<Option<Vec<u8>>, NoMemory>
     requires { first (flat_map (subtree_faults (H.state tree.now)) subtrees.now) ≡ None }
     ensures { IfOk result (λ found. option_map (λ text. text.items) found
-        ≡ advice_lines (H.state tree.now) (paired users.now subtrees.now)) }
+        ≡ changes_in format (H.state tree.now) (paired users.now subtrees.now)) }
 {
     let pairs = paired(alloc, users, subtrees)?;
-    advice_lines(alloc, tree, pairs.as_slice())
+    advice_of(alloc, tree, pairs.as_slice(), format)
 }

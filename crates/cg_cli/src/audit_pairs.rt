@@ -49,16 +49,34 @@ pub fn audit_pairs_bytes<W: Write>(
         → IsTextOf st tree.now → users_read (map (λ pair. (pair_given pair).0) pairs.now) ≡ Ok who
         → paths_read (map (λ pair. (pair_given pair).1) pairs.now) ≡ Ok paths → UnlistedAsNamed st (paired who paths)) }
 {
-    let asked = NamedPairs {
-        format: Format::Lines,
-    };
+    audit_pairs_bytes_in(alloc, Format::Lines, tree, pairs, out)
+}
+
+/// The same, written as a format says: as JSON, an object on a line for each pair, or that of `contained`, which reads as it.
+///
+/// # Errors
+/// Those of `audit_pairs_bytes`.
+pub fn audit_pairs_bytes_in<W: Write>(
+    alloc: Global,
+    format: Format,
+    tree: &[u8],
+    pairs: &[PairIds<'_>],
+    out: &mut W,
+) -> Result<u8, CliFault>
+    ensures report { OnText tree.now (λ read. ReportsPairsBy (listing_in format) (audit_pairs_report read (map pair_given pairs.now))
+        (W.contents out.old) (W.contents out.new) result) }
+    ensures unlisted { IfOk result (λ status. (st : State) (who : List Identity) (paths : List Names)
+        → IsTextOf st tree.now → users_read (map (λ pair. (pair_given pair).0) pairs.now) ≡ Ok who
+        → paths_read (map (λ pair. (pair_given pair).1) pairs.now) ≡ Ok paths → UnlistedAsNamed st (paired who paths)) }
+{
+    let asked = NamedPairs { format };
     ask_pairs(alloc, &asked, tree, pairs, out)
 }
 
 /// Which of the users aren't contained in the subtree at the same place, and how that is written.
 #[derive(Drop)]
-pub(crate) struct NamedPairs {
-    pub format: Format,
+struct NamedPairs {
+    format: Format,
 }
 
 impl NamedQuestion for NamedPairs {

@@ -72,16 +72,50 @@ pub fn audit_all_settled_bytes<W: Write>(
         → TellsUnsettled in_lines st (once same_user who) (once same_path paths) (W.contents out.old) (W.contents out.new)) }
     ensures stranger { IsFirstStranger tree.now (map (λ user. (user.uid, user.gids.now)) users.now) result stranger.new }
 {
-    let asked = AllPairs {
-        format: Format::Lines,
-    };
+    audit_all_settled_bytes_in(
+        alloc,
+        Format::Lines,
+        tree,
+        users,
+        subtrees,
+        stranger,
+        out,
+    )
+}
+
+/// The same, written as a format says: as JSON, an object on a line for each pair, or that of `contained`, which reads as it.
+///
+/// # Errors
+/// Those of `audit_all_bytes`.
+pub fn audit_all_settled_bytes_in<W: Write>(
+    alloc: Global,
+    format: Format,
+    tree: &[u8],
+    users: &[UserIds<'_>],
+    subtrees: &[&str],
+    stranger: &mut Option<u32>,
+    out: &mut W,
+) -> Result<u8, CliFault>
+    ensures report { OnText tree.now (λ read. ReportsSettled (ReportsPairsBy (listing_in format)) read
+        (map (λ user. (user.uid, user.gids.now)) users.now) (map (λ subtree. subtree.now) subtrees.now)
+        (W.contents out.old) (W.contents out.new) result) }
+    ensures further { OnText tree.now (λ read. ReportsFurther (ReportsPairsBy (listing_in format)) read
+        (map (λ user. (user.uid, user.gids.now)) users.now) (map (λ subtree. subtree.now) subtrees.now)
+        (W.contents out.old) (W.contents out.new) result) }
+    ensures unlisted { IfOk result (λ status. (st : State) (who : List Identity) (paths : List Names)
+        → IsTextOf st tree.now → users_read (map (λ user. (user.uid, user.gids.now)) users.now) ≡ Ok who
+        → paths_read (map (λ subtree. subtree.now) subtrees.now) ≡ Ok paths
+        → TellsUnsettled (listing_in format) st (once same_user who) (once same_path paths) (W.contents out.old) (W.contents out.new)) }
+    ensures stranger { IsFirstStranger tree.now (map (λ user. (user.uid, user.gids.now)) users.now) result stranger.new }
+{
+    let asked = AllPairs { format };
     ask_named(alloc, &asked, tree, users, subtrees, stranger, out)
 }
 
 /// Which pairs aren't settled, and how that is written.
 #[derive(Drop)]
-pub(crate) struct AllPairs {
-    pub format: Format,
+struct AllPairs {
+    format: Format,
 }
 
 impl NamedQuestion for AllPairs {
@@ -120,16 +154,47 @@ pub fn audit_settled_bytes<W: Write>(
         (W.contents out.old) (W.contents out.new) result) }
     ensures stranger { IsFirstStranger tree.now (map (λ user. (user.uid, user.gids.now)) users.now) result stranger.new }
 {
-    let asked = FirstPair {
-        format: Format::Lines,
-    };
+    audit_settled_bytes_in(
+        alloc,
+        Format::Lines,
+        tree,
+        users,
+        subtrees,
+        stranger,
+        out,
+    )
+}
+
+/// The same, written as a format says: as JSON, the object of that answer, which reads as it, and a pair's user is named with all their
+/// groups.
+///
+/// # Errors
+/// Those of `audit_bytes`.
+pub fn audit_settled_bytes_in<W: Write>(
+    alloc: Global,
+    format: Format,
+    tree: &[u8],
+    users: &[UserIds<'_>],
+    subtrees: &[&str],
+    stranger: &mut Option<u32>,
+    out: &mut W,
+) -> Result<u8, CliFault>
+    ensures report { OnText tree.now (λ read. ReportsSettled (ReportsFirstBy (first_in format)) read
+        (map (λ user. (user.uid, user.gids.now)) users.now) (map (λ subtree. subtree.now) subtrees.now)
+        (W.contents out.old) (W.contents out.new) result) }
+    ensures further { OnText tree.now (λ read. ReportsFurther (ReportsFirstBy (first_in format)) read
+        (map (λ user. (user.uid, user.gids.now)) users.now) (map (λ subtree. subtree.now) subtrees.now)
+        (W.contents out.old) (W.contents out.new) result) }
+    ensures stranger { IsFirstStranger tree.now (map (λ user. (user.uid, user.gids.now)) users.now) result stranger.new }
+{
+    let asked = FirstPair { format };
     ask_named(alloc, &asked, tree, users, subtrees, stranger, out)
 }
 
 /// Which is the first of them, and how that is written.
 #[derive(Drop)]
-pub(crate) struct FirstPair {
-    pub format: Format,
+struct FirstPair {
+    format: Format,
 }
 
 impl NamedQuestion for FirstPair {

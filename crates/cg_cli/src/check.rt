@@ -1,17 +1,21 @@
 //! Whether a subtree is contained against a user.
-ghost use Rattle.std.specs.Prelude.{◌≡◌, ◌∷◌, []};
+ghost use Rattle.std.specs.Prelude.{◌≡◌, ◌∷◌, [], IfOk};
 ghost use Rattle.cg_format.specs.Readings.{OnText};
-ghost use Rattle.cg_cli.specs.Containment.{answer_status, check_report, subtree_report, MeansContained};
+ghost use Rattle.cg_report.specs.AnswerLines.{IsShown};
+ghost use Rattle.cg_cli.specs.Containment.{answer_status, subtree_report_by, check_report, check_report_by, MeansContained};
+ghost use Rattle.cg_cli.specs.Formats.{answer_in};
 ghost use Rattle.cg_cli.specs.Reports.{Reports};
 ghost use Rattle.cg_cli.specs.Strangers.{IsFirstStranger};
 
 use crate::arguments::UserIds;
+use crate::format::Format;
 use crate::question::{Question, ask};
 use cg_cgroup::memory::NoMemory;
 use cg_cgroup::path::Path;
 use cg_cgroup::user::User;
 use cg_check::check;
 use cg_faults::fault::CliFault;
+use cg_json::answer::answer_json;
 use cg_model::answer::Answer;
 use cg_model::fault::CheckFault;
 use cg_model::hierarchy::Hierarchy;
@@ -39,15 +43,40 @@ pub fn check_bytes<W: Write>(
     ensures contained { MeansContained tree.now user.entry.uid user.entry.gids.now subtree.now result }
     ensures stranger { IsFirstStranger tree.now ((user.entry.uid, user.entry.gids.now) ∷ []) result stranger.new }
 {
-    ask(alloc, &Containment, tree, user, subtree, stranger, out)
+    check_bytes_in(alloc, Format::Lines, tree, user, subtree, stranger, out)
 }
 
-/// Whether the subtree is contained.
+/// The same, written as a format says: as JSON, the object of that answer, which reads as it.
+///
+/// # Errors
+/// Those of `check_bytes`.
+pub fn check_bytes_in<W: Write>(
+    alloc: Global,
+    format: Format,
+    tree: &[u8],
+    user: UserIds<'_>,
+    subtree: &str,
+    stranger: &mut Option<u32>,
+    out: &mut W,
+) -> Result<u8, CliFault>
+    ensures report { OnText tree.now (λ read. Reports
+        (check_report_by (answer_in format) read user.entry.uid user.entry.gids.now subtree.now)
+        (W.contents out.old) (W.contents out.new) result) }
+    ensures contained { MeansContained tree.now user.entry.uid user.entry.gids.now subtree.now result }
+    ensures stranger { IsFirstStranger tree.now ((user.entry.uid, user.entry.gids.now) ∷ []) result stranger.new }
+{
+    let asked = Containment { format };
+    ask(alloc, &asked, tree, user, subtree, stranger, out)
+}
+
+/// Whether the subtree is contained, and how that is written.
 #[derive(Drop)]
-struct Containment;
+struct Containment {
+    format: Format,
+}
 
 impl Question for Containment {
-    ghost says = { λ _ st user subtree said. said ≡ subtree_report st user subtree };
+    ghost says = { λ asked st user subtree said. said ≡ subtree_report_by (answer_in asked.format) st user subtree };
 
     fn answer<H: Hierarchy + Drop>(
         &self,
@@ -57,10 +86,26 @@ impl Question for Containment {
         subtree: &Path,
     ) -> Result<(Vec<u8>, u8), CheckFault> {
         let answer = check(alloc, tree, user, subtree)?;
-        match answer_text(alloc, subtree, &answer) {
+        match text_of(alloc, subtree, &answer, self.format) {
             Ok(text) => Ok((text, status(&answer))),
             Err(NoMemory) => Err(CheckFault::NoMemory),
         }
+    }
+}
+
+/// The text of an answer on a subtree.
+pub(crate) fn text_of(
+    alloc: Global,
+    subtree: &Path,
+    answer: &Answer,
+    format: Format,
+) -> Result<Vec<u8>, NoMemory>
+    requires { IsShown subtree.now answer.now }
+    ensures { IfOk result (λ text. text.items ≡ answer_in format subtree.now answer.now) }
+{
+    match format {
+        Format::Lines => answer_text(alloc, subtree, answer),
+        Format::Json => answer_json(alloc, subtree, answer),
     }
 }
 

@@ -70,7 +70,10 @@ pub fn everybody_bytes<W: Write>(
     everybody_bytes_in(alloc, Format::Lines, tree, wanted, asked, subtrees, out)
 }
 
-/// The same, written as a format says.
+/// The same, written as a format says: as JSON, the object of that answer, which reads as it.
+///
+/// # Errors
+/// Those of `everybody_bytes`.
 pub fn everybody_bytes_in<W: Write>(
     alloc: Global,
     format: Format,

@@ -54,16 +54,44 @@ pub fn explain_bytes<W: Write>(
         (W.contents out.old) (W.contents out.new) result) }
     ensures stranger { IsFirstStranger tree.now (map (λ user. (user.uid, user.gids.now)) users.now) result stranger.new }
 {
-    let reasons = Reasons {
-        format: Format::Lines,
-    };
+    explain_bytes_in(
+        alloc,
+        Format::Lines,
+        tree,
+        users,
+        subtrees,
+        stranger,
+        out,
+    )
+}
+
+/// The same, written as a format says: as JSON, an object on a line for each pair, which reads as it, and a pair's user is named with all their
+/// groups.
+///
+/// # Errors
+/// Those of `explain_bytes`.
+pub fn explain_bytes_in<W: Write>(
+    alloc: Global,
+    format: Format,
+    tree: &[u8],
+    users: &[UserIds<'_>],
+    subtrees: &[&str],
+    stranger: &mut Option<u32>,
+    out: &mut W,
+) -> Result<u8, CliFault>
+    ensures report { OnText tree.now (λ read. ReportsToldBy (told_in format)
+        (explain_asked read (map (λ user. (user.uid, user.gids.now)) users.now) (map (λ subtree. subtree.now) subtrees.now))
+        (W.contents out.old) (W.contents out.new) result) }
+    ensures stranger { IsFirstStranger tree.now (map (λ user. (user.uid, user.gids.now)) users.now) result stranger.new }
+{
+    let reasons = Reasons { format };
     ask_named(alloc, &reasons, tree, users, subtrees, stranger, out)
 }
 
 /// Why each subtree is contained, or isn't, and how that is written.
 #[derive(Drop)]
-pub(crate) struct Reasons {
-    pub format: Format,
+struct Reasons {
+    format: Format,
 }
 
 impl NamedQuestion for Reasons {

@@ -33,16 +33,31 @@ pub fn explain_pairs_bytes<W: Write>(
     ensures { OnText tree.now (λ read. ReportsTold (explain_pairs_asked read (map pair_given pairs.now))
         (W.contents out.old) (W.contents out.new) result) }
 {
-    let reasons = NamedReasons {
-        format: Format::Lines,
-    };
+    explain_pairs_bytes_in(alloc, Format::Lines, tree, pairs, out)
+}
+
+/// The same, written as a format says: as JSON, an object on a line for each pair, which reads as it.
+///
+/// # Errors
+/// Those of `explain_bytes`.
+pub fn explain_pairs_bytes_in<W: Write>(
+    alloc: Global,
+    format: Format,
+    tree: &[u8],
+    pairs: &[PairIds<'_>],
+    out: &mut W,
+) -> Result<u8, CliFault>
+    ensures { OnText tree.now (λ read. ReportsToldBy (told_in format) (explain_pairs_asked read (map pair_given pairs.now))
+        (W.contents out.old) (W.contents out.new) result) }
+{
+    let reasons = NamedReasons { format };
     ask_pairs(alloc, &reasons, tree, pairs, out)
 }
 
 /// Why each subtree is contained against the user at the same place, or isn't, and how that is written.
 #[derive(Drop)]
-pub(crate) struct NamedReasons {
-    pub format: Format,
+struct NamedReasons {
+    format: Format,
 }
 
 impl NamedQuestion for NamedReasons {

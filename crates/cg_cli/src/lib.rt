@@ -6,7 +6,6 @@ pub mod advise_pairs;
 pub mod advise_settle;
 pub mod answers;
 pub mod arguments;
-pub mod as_json;
 pub mod audit;
 pub mod audit_all;
 pub mod audit_pairs;

@@ -1,23 +1,29 @@
 //! One migration: whether a user may move a process to a cgroup.
 ghost use Rattle.std.specs.Prelude.{◌≡◌, IfOk};
+ghost use Rattle.std.specs.Option.{ForSome};
 ghost use Rattle.cg_model.specs.Clauses.{first};
 ghost use Rattle.cg_model.specs.Bars.{bars};
+ghost use Rattle.cg_model.specs.declared.outcome.Outcome.TheVariants.{Refused};
+ghost use Rattle.cg_lines.specs.Outcomes.{CanShow};
 ghost use Rattle.cg_format.specs.Readings.{OnText};
-ghost use Rattle.cg_cli.specs.May.{permission, may_report};
+ghost use Rattle.cg_cli.specs.Formats.{permission_in};
+ghost use Rattle.cg_cli.specs.May.{permission_text, permission_status, may_report, may_report_by};
 ghost use Rattle.cg_cli.specs.Missing.{IsAbsentFrom};
 ghost use Rattle.cg_cli.specs.Reports.{Reports};
 
 use crate::arguments::{UserIds, read_path, read_pid, read_user};
+use crate::format::Format;
 use crate::missing::if_missing;
 use crate::reading::read_tree;
 use crate::report::write_said;
 use cg_cgroup::memory::NoMemory;
 use cg_cgroup::user::User;
 use cg_faults::fault::CliFault;
+use cg_json::outcome::permission_json;
 use cg_lines::outcome::outcome_text;
 use cg_model::hierarchy::Hierarchy;
 use cg_model::operation::Op;
-use cg_model::outcome::Outcome;
+use cg_model::outcome::{Outcome, Refusal};
 use cg_ops::refusal;
 use std::alloc::Global;
 use std::io::Write;
@@ -42,12 +48,34 @@ pub fn may_bytes<W: Write>(
         (W.contents out.old) (W.contents out.new) result) }
     ensures missing { IsAbsentFrom tree.now to.now result missing.new }
 {
+    may_bytes_in(alloc, Format::Lines, tree, user, pid, to, missing, out)
+}
+
+/// The same, written as a format says: as JSON, the object of that answer, which reads as it.
+///
+/// # Errors
+/// Those of `may_bytes`.
+pub fn may_bytes_in<W: Write>(
+    alloc: Global,
+    format: Format,
+    tree: &[u8],
+    user: UserIds<'_>,
+    pid: u32,
+    to: &str,
+    missing: &mut Option<Missing>,
+    out: &mut W,
+) -> Result<u8, CliFault>
+    ensures report { OnText tree.now (λ read. Reports
+        (may_report_by (permission_in format) read user.entry.uid user.entry.gids.now pid to.now)
+        (W.contents out.old) (W.contents out.new) result) }
+    ensures missing { IsAbsentFrom tree.now to.now result missing.new }
+{
     let user = read_user(user)?;
     let pid = read_pid(pid)?;
     let to = read_path(alloc, to)?;
     let tree = read_tree(alloc, tree)?;
     let found = if_missing(alloc, &tree, &to)?;
-    let said = permission(alloc, &tree, &user, &Op::Move { pid, to })?;
+    let said = permission(alloc, &tree, &user, &Op::Move { pid, to }, format)?;
     *missing = found;
     write_said(out, said)
 }
@@ -58,14 +86,51 @@ fn permission<H: Hierarchy>(
     tree: &H,
     user: &User,
     op: &Op,
+    format: Format,
 ) -> Result<(Vec<u8>, u8), NoMemory>
     ensures text { IfOk result (λ said. said.0.items
-        ≡ (permission op.now (first (bars (H.state tree.now) user.now op.now))).0) }
+        ≡ permission_in format op.now (first (bars (H.state tree.now) user.now op.now))) }
     ensures status { IfOk result (λ said. said.1
-        ≡ (permission op.now (first (bars (H.state tree.now) user.now op.now))).1) }
+        ≡ permission_status (first (bars (H.state tree.now) user.now op.now))) }
 {
-    match refusal(tree, user, op) {
-        None => Ok((b"granted\n".to_vec(alloc)?, 0)),
-        Some(refusal) => Ok((outcome_text(alloc, op, &Outcome::Refused(refusal))?, 1)),
+    let bar = refusal(tree, user, op);
+    let text = text_of(alloc, op, bar, format)?;
+    Ok((text, permission_status(bar)))
+}
+
+/// The text of what bars an operation, or of nothing that does.
+fn text_of(
+    alloc: Global,
+    op: &Op,
+    bar: Option<Refusal>,
+    format: Format,
+) -> Result<Vec<u8>, NoMemory>
+    requires { ForSome bar (λ one. CanShow op.now (Refused one)) }
+    ensures { IfOk result (λ text. text.items ≡ permission_in format op.now bar) }
+{
+    match format {
+        Format::Lines => permission_text(alloc, op, bar),
+        Format::Json => permission_json(alloc, op, bar),
+    }
+}
+
+/// The status by what bars an operation.
+fn permission_status(bar: Option<Refusal>) -> u8
+    ensures { result ≡ permission_status bar }
+{
+    match bar {
+        None => 0,
+        Some(_) => 1,
+    }
+}
+
+/// The line of what bars an operation, or of nothing that does.
+fn permission_text(alloc: Global, op: &Op, bar: Option<Refusal>) -> Result<Vec<u8>, NoMemory>
+    requires { ForSome bar (λ one. CanShow op.now (Refused one)) }
+    ensures { IfOk result (λ text. text.items ≡ permission_text op.now bar) }
+{
+    match bar {
+        None => Ok(b"granted\n".to_vec(alloc)?),
+        Some(refusal) => outcome_text(alloc, op, &Outcome::Refused(refusal)),
     }
 }

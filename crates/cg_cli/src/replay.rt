@@ -54,8 +54,11 @@ pub fn replay_bytes<W: Write>(
     replay_bytes_in(alloc, Format::Lines, tree, user, subtree, ops, out)
 }
 
-/// The same, written as a format says.
-pub(crate) fn replay_bytes_in<W: Write>(
+/// The same, written as a format says: as JSON, an object on a line for each line, which reads as it.
+///
+/// # Errors
+/// Those of `replay_bytes`.
+pub fn replay_bytes_in<W: Write>(
     alloc: Global,
     format: Format,
     tree: &[u8],

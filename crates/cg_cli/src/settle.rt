@@ -3,12 +3,14 @@ ghost use Rattle.std.specs.Prelude.{◌∷◌, []};
 ghost use Rattle.cg_cli.specs.Settled.{IsSettledFrom};
 ghost use Rattle.cg_format.specs.Readings.{OnText};
 ghost use Rattle.cg_cli.specs.Containment.{MeansContained};
-ghost use Rattle.cg_cli.specs.Settling.{AskedReports, FurtherSays, IsFurther};
+ghost use Rattle.cg_cli.specs.Formats.{answer_in};
+ghost use Rattle.cg_cli.specs.Settling.{AskedReports, FurtherSays, FurtherSaysBy, IsFurther};
 ghost use Rattle.cg_cli.specs.Strangers.{IsFirstStranger};
 
 use crate::answers::settle::settle;
 use crate::arguments::UserIds;
-use crate::check::status;
+use crate::check::{status, text_of};
+use crate::format::Format;
 use crate::question::{Question, ask};
 use cg_cgroup::memory::NoMemory;
 use cg_cgroup::path::Path;
@@ -16,7 +18,6 @@ use cg_cgroup::user::User;
 use cg_faults::fault::CliFault;
 use cg_model::fault::CheckFault;
 use cg_model::hierarchy::Hierarchy;
-use cg_report::answer::answer_text;
 use std::alloc::Global;
 use std::io::Write;
 
@@ -42,15 +43,41 @@ pub fn settle_bytes<W: Write>(
     ensures contained { MeansContained tree.now user.entry.uid user.entry.gids.now subtree.now result }
     ensures stranger { IsFirstStranger tree.now ((user.entry.uid, user.entry.gids.now) ∷ []) result stranger.new }
 {
-    ask(alloc, &Settling, tree, user, subtree, stranger, out)
+    settle_bytes_in(alloc, Format::Lines, tree, user, subtree, stranger, out)
 }
 
-/// What is known of the subtree.
+/// The same, written as a format says: as JSON, the object of that answer, which reads as it.
+///
+/// # Errors
+/// Those of `settle_bytes`.
+pub fn settle_bytes_in<W: Write>(
+    alloc: Global,
+    format: Format,
+    tree: &[u8],
+    user: UserIds<'_>,
+    subtree: &str,
+    stranger: &mut Option<u32>,
+    out: &mut W,
+) -> Result<u8, CliFault>
+    ensures report { OnText tree.now (λ read. AskedReports (FurtherSaysBy (answer_in format) IsSettledFrom)
+        read user.entry.uid user.entry.gids.now subtree.now (W.contents out.old) (W.contents out.new) result) }
+    ensures further { OnText tree.now (λ read. AskedReports (FurtherSaysBy (answer_in format) IsFurther)
+        read user.entry.uid user.entry.gids.now subtree.now (W.contents out.old) (W.contents out.new) result) }
+    ensures contained { MeansContained tree.now user.entry.uid user.entry.gids.now subtree.now result }
+    ensures stranger { IsFirstStranger tree.now ((user.entry.uid, user.entry.gids.now) ∷ []) result stranger.new }
+{
+    let asked = Settling { format };
+    ask(alloc, &asked, tree, user, subtree, stranger, out)
+}
+
+/// What is known of the subtree, and how that is written.
 #[derive(Drop)]
-struct Settling;
+struct Settling {
+    format: Format,
+}
 
 impl Question for Settling {
-    ghost says = { λ _. FurtherSays IsSettledFrom };
+    ghost says = { λ asked. FurtherSaysBy (answer_in asked.format) IsSettledFrom };
 
     fn answer<H: Hierarchy + Drop>(
         &self,
@@ -60,7 +87,7 @@ impl Question for Settling {
         subtree: &Path,
     ) -> Result<(Vec<u8>, u8), CheckFault> {
         let answer = settle(alloc, tree, user, subtree)?;
-        match answer_text(alloc, subtree, &answer) {
+        match text_of(alloc, subtree, &answer, self.format) {
             Ok(text) => Ok((text, status(&answer))),
             Err(NoMemory) => Err(CheckFault::NoMemory),
         }

@@ -1,21 +1,7 @@
-use Rattle.std.proofs.Common.{map}
-use Rattle.cg_cli.specs.Advising.{AdvisesPairs}
-use Rattle.cg_cli.proofs.AdviseReports.{advise_said}
-use Rattle.cg_cli.proofs.AuditReports.{means_contained}
 use Rattle.cg_cli.proofs.advise.advise_bytes.Goals as goal
 
 pub returns-clause-report : goal.returns-clause-report
-returns-clause-report g c =
-    let asked = c.ask_named.ensures.report in (
-      asked.0,
-      asked.1,
-      advise_said asked.0 (map (λ user. (user.uid, user.gids.now)) c.args.users.now)
-          (map (λ subtree. subtree.now) c.args.subtrees.now)
-          (g.W.Write.contents c.args.out.now) (g.W.Write.contents c.ask_named.new.out) c.ask_named.result asked.2,
-    )
+returns-clause-report g c = c.advise_bytes_in.ensures.report
 
 pub returns-clause-contained : goal.returns-clause-contained
-returns-clause-contained g c =
-    means_contained AdvisesPairs (λ st users subtrees old new result said. said.1) c.args.tree.now
-    (map (λ user. (user.uid, user.gids.now)) c.args.users.now) (map (λ subtree. subtree.now) c.args.subtrees.now)
-    (g.W.Write.contents c.args.out.now) (g.W.Write.contents c.ask_named.new.out) c.ask_named.result c.ask_named.ensures.report
+returns-clause-contained g c = c.advise_bytes_in.ensures.contained

@@ -1,20 +1,7 @@
-use Rattle.std.proofs.Common.{map}
-use Rattle.cg_cli.specs.Advising.{AdvisesNamed}
-use Rattle.cg_cli.specs.Pairs.{pair_given}
-use Rattle.cg_cli.proofs.NamedPairs.{advised_said, contained_said}
 use Rattle.cg_cli.proofs.advise_pairs.advise_pairs_bytes.Goals as goal
 
 pub returns-clause-report : goal.returns-clause-report
-returns-clause-report g c =
-    let asked = c.ask_pairs.ensures in (
-      asked.0,
-      asked.1,
-      advised_said asked.0 c.args.pairs.now (g.W.Write.contents c.args.out.now) (g.W.Write.contents c.ask_pairs.new.out)
-          c.ask_pairs.result asked.2,
-    )
+returns-clause-report g c = c.advise_pairs_bytes_in.ensures.report
 
 pub returns-clause-contained : goal.returns-clause-contained
-returns-clause-contained g c =
-    contained_said AdvisesNamed (λ st users subtrees old new result said. said.1) c.args.tree.now
-    (map (λ pair. (pair_given pair).0) c.args.pairs.now) (map (λ pair. (pair_given pair).1) c.args.pairs.now)
-    (g.W.Write.contents c.args.out.now) (g.W.Write.contents c.ask_pairs.new.out) c.ask_pairs.result c.ask_pairs.ensures
+returns-clause-contained g c = c.advise_pairs_bytes_in.ensures.contained

@@ -1,20 +1,7 @@
-use Rattle.std.proofs.Common.{map}
-use Rattle.cg_cli.proofs.FurtherAdvice.{settled_said, further_on}
 use Rattle.cg_cli.proofs.advise_settle.advise_settled_bytes.Goals as goal
 
 pub returns-clause-report : goal.returns-clause-report
-returns-clause-report g c =
-    let asked = c.ask_named.ensures.report in (
-      asked.0,
-      asked.1,
-      settled_said asked.0 (map (λ user. (user.uid, user.gids.now)) c.args.users.now)
-          (map (λ subtree. subtree.now) c.args.subtrees.now)
-          (g.W.Write.contents c.args.out.now) (g.W.Write.contents c.ask_named.new.out) c.ask_named.result asked.2,
-    )
+returns-clause-report g c = c.advise_settled_bytes_in.ensures.report
 
 pub returns-clause-further : goal.returns-clause-further
-returns-clause-further g c =
-    further_on c.args.tree.now (map (λ user. (user.uid, user.gids.now)) c.args.users.now)
-    (map (λ subtree. subtree.now) c.args.subtrees.now)
-    (g.W.Write.contents c.args.out.now) (g.W.Write.contents c.ask_named.new.out) c.ask_named.result
-    (returns-clause-report g c)
+returns-clause-further g c = c.advise_settled_bytes_in.ensures.further

@@ -1,20 +1,7 @@
-use Rattle.std.proofs.Common.{map}
-use Rattle.cg_cli.specs.Audits.{AuditsPairs}
-use Rattle.cg_cli.proofs.AuditReports.{audit_said, means_contained}
 use Rattle.cg_cli.proofs.audit.audit_bytes.Goals as goal
 
 pub returns-clause-report : goal.returns-clause-report
-returns-clause-report g c =
-    let asked = c.ask_named.ensures.report in (
-      asked.0,
-      asked.1,
-      audit_said asked.0 (map (λ user. (user.uid, user.gids.now)) c.args.users.now)
-          (map (λ subtree. subtree.now) c.args.subtrees.now)
-          (g.W.Write.contents c.args.out.now) (g.W.Write.contents c.ask_named.new.out) c.ask_named.result asked.2,
-    )
+returns-clause-report g c = c.audit_bytes_in.ensures.report
 
 pub returns-clause-contained : goal.returns-clause-contained
-returns-clause-contained g c =
-    means_contained AuditsPairs (λ st users subtrees old new result said. said.1) c.args.tree.now
-    (map (λ user. (user.uid, user.gids.now)) c.args.users.now) (map (λ subtree. subtree.now) c.args.subtrees.now)
-    (g.W.Write.contents c.args.out.now) (g.W.Write.contents c.ask_named.new.out) c.ask_named.result c.ask_named.ensures.report
+returns-clause-contained g c = c.audit_bytes_in.ensures.contained

@@ -1,14 +1,4 @@
-use Rattle.std.proofs.Common.{map}
-use Rattle.cg_explain.specs.PairExplained.{pair_lines}
-use Rattle.cg_cli.proofs.Explaining.{explain_said}
 use Rattle.cg_cli.proofs.explain.explain_bytes.Goals as goal
 
 pub returns-clause-report : goal.returns-clause-report
-returns-clause-report g c =
-    let asked = c.ask_named.ensures.report in (
-      asked.0,
-      asked.1,
-      explain_said pair_lines asked.0 (map (λ user. (user.uid, user.gids.now)) c.args.users.now)
-          (map (λ subtree. subtree.now) c.args.subtrees.now)
-          (g.W.Write.contents c.args.out.now) (g.W.Write.contents c.ask_named.new.out) c.ask_named.result asked.2,
-    )
+returns-clause-report g c = c.explain_bytes_in.ensures.report

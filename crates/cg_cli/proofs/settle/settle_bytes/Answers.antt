@@ -1,21 +1,7 @@
-use Rattle.cg_cli.specs.Settled.{IsSettledFrom}
-use Rattle.cg_cli.specs.Settling.{FurtherSays, IsFurther}
-use Rattle.cg_cli.proofs.Asked.{says_more, formed_read}
-use Rattle.cg_cli.proofs.SettleReports.{settling_takes, further}
 use Rattle.cg_cli.proofs.settle.settle_bytes.Goals as goal
 
-pub ask-requires : goal.ask-requires
-ask-requires g c = settling_takes
+pub returns-clause-report : goal.returns-clause-report
+returns-clause-report g c = c.settle_bytes_in.ensures.report
 
 pub returns-clause-further : goal.returns-clause-further
-returns-clause-further g c =
-    let asked = c.ask.ensures.report in (
-      asked.0,
-      asked.1,
-      (
-        asked.2.0,
-        says_more asked.0 c.args.user.uid c.args.user.gids.now c.args.subtree.now (FurtherSays IsSettledFrom) (FurtherSays IsFurther)
-            (λ st user path of_tree. further st user path (formed_read c.args.tree.now asked.0 asked.1 st of_tree)) asked.2.0 asked.2.1,
-        asked.2.2,
-      ),
-    )
+returns-clause-further g c = c.settle_bytes_in.ensures.further

@@ -1,7 +1,7 @@
 use Rattle.cg_cli.proofs.SettleReports.{settled_is_shown}
 use Rattle.cg_cli.proofs.settle.SettlingQuestion.answer.Goals as goal
 
-pub answer_text-requires : goal.answer_text-requires
-answer_text-requires g c =
+pub text_of-requires : goal.text_of-requires
+text_of-requires g c =
     settled_is_shown (g.H.Hierarchy.state c.args.tree.now) c.args.user.now c.args.subtree.now c.in_ok-answer.answer
     c.in_ok-answer.ensures.settled

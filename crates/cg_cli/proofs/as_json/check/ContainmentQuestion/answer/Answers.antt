@@ -1,7 +1,0 @@
-use Rattle.cg_report.proofs.Shown.{answers_are_shown}
-use Rattle.cg_cli.proofs.as_json.check.ContainmentQuestion.answer.Goals as goal
-
-pub answer_line-requires : goal.answer_line-requires
-answer_line-requires g c =
-    answers_are_shown
-    (g.H.Hierarchy.state c.args.tree.now) c.args.user.now c.args.subtree.now c.in_ok-answer.answer c.in_ok-answer.ensures.answer

@@ -1,0 +1,14 @@
+use Rattle.std.proofs.Common.{map}
+use Rattle.cg_cli.specs.Formats.{told_in}
+use Rattle.cg_cli.proofs.Explaining.{explain_said}
+use Rattle.cg_cli.proofs.explain.explain_bytes_in.Goals as goal
+
+pub returns-clause-report : goal.returns-clause-report
+returns-clause-report g c =
+    let asked = c.ask_named.ensures.report in (
+      asked.0,
+      asked.1,
+      explain_said (told_in c.args.format) asked.0 (map (λ user. (user.uid, user.gids.now)) c.args.users.now)
+          (map (λ subtree. subtree.now) c.args.subtrees.now)
+          (g.W.Write.contents c.args.out.now) (g.W.Write.contents c.ask_named.new.out) c.ask_named.result asked.2,
+    )
