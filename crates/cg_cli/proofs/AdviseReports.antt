@@ -28,7 +28,7 @@ use Rattle.cg_advice.specs.declared.pair.Pair.{Pair as PairOfBoth}
 use Rattle.cg_advice.proofs.Gathering.{one_more, flat_more}
 use Rattle.cg_format.specs.Readings.{Reading}
 use Rattle.cg_cli.specs.Advising.{Advice, told_report, pair_with, all_pairs, advised_by, advice_report_by, AdvisesPairsBy, named_report, advise_report_by}
-use Rattle.cg_cli.specs.Asking.{named_read, IsMet, IsKeptOnce, NamedReports}
+use Rattle.cg_cli.specs.Asking.{named_read, IsMet, NamedReports}
 use Rattle.cg_cli.specs.Audits.{users_read, paths_read}
 use Rattle.cg_cli.specs.Containment.{in_call}
 use Rattle.cg_cli.specs.May.{tree_read}

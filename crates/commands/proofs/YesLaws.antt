@@ -13,11 +13,9 @@ use Rattle.cg_cgroup.specs.Paths.{Names, same_path}
 use Rattle.cg_model.specs.States.{State}
 use Rattle.cg_cli.specs.Arguments.{user_read, path_read}
 use Rattle.cg_cli.specs.AllPairs.{read_then, pairs_found, all_report, ReportsPairsBy}
-use Rattle.cg_cli.specs.AsJson.{check_json_report, audit_json_report}
-use Rattle.cg_cli.specs.Formats.{listing_in}
-use Rattle.cg_cli.proofs.AsJson.{check_ending, audit_ending}
-use Rattle.cg_cli.proofs.FormatEndings.{everybody_ending}
-use Rattle.cg_cli.specs.Containment.{subtree_report, check_report}
+use Rattle.cg_cli.specs.Formats.{answer_in, listing_in}
+use Rattle.cg_cli.proofs.FormatEndings.{check_ending, audit_ending, everybody_ending}
+use Rattle.cg_cli.specs.Containment.{subtree_report, check_report, check_report_by}
 use Rattle.cg_cli.specs.Audits.{users_read, paths_read, pairs_report, audit_report}
 use Rattle.cg_cli.specs.Everybody.{everybody_said_in, everybody_report_in, everybody_report}
 use Rattle.cg_cli.specs.declared.everybody.Wanted.{Wanted}
@@ -33,7 +31,6 @@ use Rattle.arguments.specs.declared.everyone.Wanted.TheVariants as asked_for
 use Rattle.arguments.specs.Given.{ids_of, words_at, users_given, everyone_given, everyone_of, IsAudit, IsEverybody, IsOfSubtrees, tree_file, other_file, Holds, wanted_command, command_of}
 use Rattle.arguments.specs.UserWords.{all_read, user_at}
 use Rattle.arguments.specs.declared.format.Format.{Format as Written}
-use Rattle.arguments.specs.declared.format.Format.TheVariants as written_as
 use Rattle.arguments.specs.declared.request.Check.{Check}
 use Rattle.arguments.specs.declared.request.Audit.{Audit}
 use Rattle.arguments.specs.declared.request.Everybody.{Everybody}
@@ -48,7 +45,7 @@ use Rattle.machine_answers.specs.Contained.{of_ids, IsContainedIn, AreContainedI
 use Rattle.machine_answers.proofs.MachineLaws.{contained_in}
 use Rattle.machine_answers.proofs.AuditedLaws.{audited_in, all_audited_in}
 use Rattle.machine_answers.proofs.EverybodyLaws.{held_against_everybody}
-use Rattle.commands.specs.Requests.{Files, source, name_of, IsTree, IsOtherText, IsUnread, format_of, in_format, check_said, audit_said, whom, wanted_of, everybody_asked, EverybodyOn, OnLines, GuardsSay, FurtherSay, CarriesOut}
+use Rattle.commands.specs.Requests.{Files, source, name_of, IsTree, IsOtherText, IsUnread, format_of, check_said, audit_said, whom, wanted_of, everybody_asked, EverybodyOn, OnLines, GuardsSay, FurtherSay, CarriesOut}
 use Rattle.commands.specs.Runs.{IsFlushed, LeadsTo, RunsTo, exit_status}
 use Rattle.commands.specs.SubtreeLines.{subtrees_read, AreLinesOf}
 use Rattle.commands.specs.Yes.{AsksCheck, AsksAudit, AsksEverybody, AsksEverybodyOfLines, WasRead, CheckMeans, AuditMeans, EverybodyMeans}
@@ -106,21 +103,14 @@ unread_pairs (Ok a) (Err other) fault report found is = cc
 unread_pairs (Err other) two fault report found is = cc
 
 -- however it is written
-pub ends_alike : (format : Written) (lines json : Report) → json.ending ≡ lines.ending → (in_format format lines json).ending ≡ lines.ending
-ends_alike written_as.Lines lines json same = refl
-ends_alike written_as.Json lines json same = same
-
 check_zero : (format : Written) (tree : Reading) (uid : ℕ) (gids word : List ℕ)
-    → (in_format format (check_report tree uid gids word) (check_json_report tree uid gids word)).ending ≡ Ok 0
+    → (check_report_by (answer_in (format_of format)) tree uid gids word).ending ≡ Ok 0
     → (check_report tree uid gids word).ending ≡ Ok 0
-check_zero format tree uid gids word is =
-    sym (ends_alike format (check_report tree uid gids word) (check_json_report tree uid gids word) (check_ending tree uid gids word)) ∙ is
+check_zero format tree uid gids word is = sym (check_ending (answer_in (format_of format)) tree uid gids word) ∙ is
 
 audit_zero : (format : Written) (tree : Reading) (users : List (ℕ × List ℕ)) (subtrees : List (List ℕ))
     → (audit_said format tree users subtrees).ending ≡ Ok 0 → (audit_report tree users subtrees).ending ≡ Ok 0
-audit_zero format tree users subtrees is =
-    sym (ends_alike format (audit_report tree users subtrees) (audit_json_report tree users subtrees) (audit_ending tree users subtrees))
-    ∙ is
+audit_zero format tree users subtrees is = sym (audit_ending (format_of format) tree users subtrees) ∙ is
 
 check_refused : (fault : TreeFault) (uid : ℕ) (gids word : List ℕ) → (check_report (Err fault) uid gids word).ending ≡ Ok 0 → ⊥
 check_refused fault uid gids word is =

@@ -15,17 +15,12 @@ use Rattle.arguments.specs.declared.format.Format.{Format as Written}
 use Rattle.arguments.specs.declared.format.Format.TheVariants as written_as
 use Rattle.arguments.specs.declared.request.Request.{Request}
 use Rattle.arguments.specs.declared.request.Request.TheVariants as request
-use Rattle.cg_cgroup.specs.Identity.{Identity}
-use Rattle.cg_cgroup.specs.Paths.{Names}
-use Rattle.cg_model.specs.States.{State}
 use Rattle.cg_format.specs.Readings.{Reading, OnText, vocabulary_in}
-use Rattle.cg_cli.specs.May.{may_report}
-use Rattle.cg_cli.specs.Containment.{check_report}
+use Rattle.cg_cli.specs.May.{may_report_by}
+use Rattle.cg_cli.specs.Containment.{check_report_by}
 use Rattle.cg_cli.specs.Settled.{IsSettledFrom}
-use Rattle.cg_cli.specs.Settling.{AskedReports, FurtherSays}
-use Rattle.cg_cli.specs.Audits.{audit_report}
+use Rattle.cg_cli.specs.Settling.{AskedReports, FurtherSaysBy}
 use Rattle.cg_cli.specs.AllPairs.{all_report, ReportsPairsBy}
-use Rattle.cg_cli.specs.AsJson.{may_json_report, check_json_report, FurtherSaysAsJson, audit_json_report, advise_json_report, advise_settled_json_report, advise_pairs_json_report}
 use Rattle.cg_cli.specs.Asking.{CallEnding}
 use Rattle.cg_cli.specs.EachPair.{audit_pairs_report, explain_pairs_asked}
 use Rattle.cg_cli.specs.Everybody.{everybody_report_in}
@@ -36,10 +31,10 @@ use Rattle.arguments.specs.declared.everyone.Wanted.TheVariants as asked_for
 use Rattle.machine_everybody.specs.Everybody.{Everybody as Whom}
 use Rattle.arguments.specs.declared.everyone.Everyone.{Everyone}
 use Rattle.cg_cli.specs.Explaining.{explain_asked, ReportsToldBy}
-use Rattle.cg_cli.specs.Formats.{told_in, listing_in, first_in}
+use Rattle.cg_cli.specs.Formats.{permission_in, answer_in, audit_report_in, advice_in, told_in, listing_in, first_in}
 use Rattle.cg_cli.specs.declared.format.Format.{Format}
 use Rattle.cg_cli.specs.declared.format.Format.TheVariants.{Lines, Json}
-use Rattle.cg_cli.specs.Advising.{advise_report, advise_pairs_report}
+use Rattle.cg_cli.specs.Advising.{advise_report_by, advise_pairs_report_by}
 use Rattle.cg_cli.specs.SettledAdvice.{advise_settled_report}
 use Rattle.cg_cli.specs.FurtherPairs.{ReportsFirstBy}
 use Rattle.cg_cli.specs.SettledPairs.{ReportsSettled}
@@ -88,20 +83,13 @@ abbrev pub format_of : Written → Format
 format_of written_as.Lines = Lines
 format_of written_as.Json = Json
 
--- the report as lines, or that as JSON
-abbrev pub in_format : Written → Report → Report → Report
-in_format written_as.Lines lines json = lines
-in_format written_as.Json lines json = json
-
 abbrev pub may_said : May → Reading → Report
 may_said may tree =
-    in_format may.format (may_report tree may.user.uid may.user.gids.items may.pid may.to.now)
-    (may_json_report tree may.user.uid may.user.gids.items may.pid may.to.now)
+    may_report_by (permission_in (format_of may.format)) tree may.user.uid may.user.gids.items may.pid may.to.now
 
 abbrev pub check_said : Check → Reading → Report
 check_said check tree =
-    in_format check.format (check_report tree check.user.uid check.user.gids.items check.subtree.now)
-    (check_json_report tree check.user.uid check.user.gids.items check.subtree.now)
+    check_report_by (answer_in (format_of check.format)) tree check.user.uid check.user.gids.items check.subtree.now
 
 -- whom `--everybody` is about
 abbrev pub whom : Everyone → Whom
@@ -119,26 +107,22 @@ everybody_asked asked tree =
     (map (λ subtree. subtree.now) asked.subtrees.items)
 
 -- what check says, or where that is unsettled what the second row of guards and the planner know
-abbrev pub SettlesIn : Written → State → Identity → Names → Report → Type 0
-SettlesIn written_as.Lines = FurtherSays IsSettledFrom
-SettlesIn written_as.Json = FurtherSaysAsJson IsSettledFrom
-
 abbrev pub SettlesAs : Check → Option (List ℕ) → Option (List ℕ) → Result ℕ CliFault → Reading → Type 0
 SettlesAs check old new result tree =
-    AskedReports (SettlesIn check.format) tree check.user.uid check.user.gids.items check.subtree.now old new result
+    AskedReports (FurtherSaysBy (answer_in (format_of check.format)) IsSettledFrom) tree check.user.uid check.user.gids.items
+    check.subtree.now old new result
 
 abbrev pub audit_said : Written → Reading → List (ℕ × List ℕ) → List (List ℕ) → Report
-audit_said format tree users subtrees = in_format format (audit_report tree users subtrees) (audit_json_report tree users subtrees)
+audit_said format tree users subtrees = audit_report_in (format_of format) tree users subtrees
 
 abbrev pub advise_said : Written → Reading → List (ℕ × List ℕ) → List (List ℕ) → Report
-advise_said format tree users subtrees = in_format format (advise_report tree users subtrees) (advise_json_report tree users subtrees)
+advise_said format tree users subtrees = advise_report_by (advice_in (format_of format)) tree users subtrees
 
 abbrev pub advise_settled_said : Written → Reading → List (ℕ × List ℕ) → List (List ℕ) → Report
-advise_settled_said format tree users subtrees =
-    in_format format (advise_settled_report tree users subtrees) (advise_settled_json_report tree users subtrees)
+advise_settled_said format tree users subtrees = advise_settled_report (advice_in (format_of format)) tree users subtrees
 
 abbrev pub advise_pairs_said : Written → Reading → List GivenPair → Report
-advise_pairs_said format tree pairs = in_format format (advise_pairs_report tree pairs) (advise_pairs_json_report tree pairs)
+advise_pairs_said format tree pairs = advise_pairs_report_by (advice_in (format_of format)) tree pairs
 
 -- what guards tell to change, or what is to be changed where the second row doesn't hold
 abbrev pub AdviseSays : Advise → Option (List ℕ) → Option (List ℕ) → Result ℕ CliFault → Reading → Type 0

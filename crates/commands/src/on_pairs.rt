@@ -13,15 +13,12 @@ use crate::carried::Noted;
 use crate::lines::line_at;
 use crate::pairs::read_pairs;
 use crate::texts::both_texts;
-use crate::users::pair_ids;
+use crate::users::{format_of, pair_ids};
 use arguments::format::Format;
 use arguments::request::Sources;
-use cg_cli::advise_pairs::advise_pairs_bytes;
-use cg_cli::as_json::advise_pairs::advise_pairs_json_bytes;
-use cg_cli::as_json::audit_pairs::audit_pairs_json_bytes;
-use cg_cli::as_json::explain::explain_pairs_json_bytes;
-use cg_cli::audit_pairs::audit_pairs_bytes;
-use cg_cli::explain_pairs::explain_pairs_bytes;
+use cg_cli::advise_pairs::advise_pairs_bytes_in;
+use cg_cli::audit_pairs::audit_pairs_bytes_in;
+use cg_cli::explain_pairs::explain_pairs_bytes_in;
 use cg_cli::pairs::PairIds;
 use cg_faults::fault::CliFault;
 use std::alloc::Global;
@@ -110,10 +107,7 @@ impl OnPairs for Advising {
         pairs: &[PairIds<'_>],
         out: &mut W,
     ) -> Result<u8, CliFault> {
-        match self.format {
-            Format::Lines => advise_pairs_bytes(alloc, tree, pairs, out),
-            Format::Json => advise_pairs_json_bytes(alloc, tree, pairs, out),
-        }
+        advise_pairs_bytes_in(alloc, format_of(self.format), tree, pairs, out)
     }
 }
 
@@ -133,10 +127,7 @@ impl OnPairs for Auditing {
         pairs: &[PairIds<'_>],
         out: &mut W,
     ) -> Result<u8, CliFault> {
-        match self.format {
-            Format::Lines => audit_pairs_bytes(alloc, tree, pairs, out),
-            Format::Json => audit_pairs_json_bytes(alloc, tree, pairs, out),
-        }
+        audit_pairs_bytes_in(alloc, format_of(self.format), tree, pairs, out)
     }
 }
 
@@ -156,9 +147,6 @@ impl OnPairs for Explaining {
         pairs: &[PairIds<'_>],
         out: &mut W,
     ) -> Result<u8, CliFault> {
-        match self.format {
-            Format::Lines => explain_pairs_bytes(alloc, tree, pairs, out),
-            Format::Json => explain_pairs_json_bytes(alloc, tree, pairs, out),
-        }
+        explain_pairs_bytes_in(alloc, format_of(self.format), tree, pairs, out)
     }
 }

@@ -14,26 +14,17 @@ ghost use Rattle.commands.specs.Requests.{source, name_of, may_said, check_said,
 use crate::both::plain;
 use crate::on_subtrees::against_everybody;
 use crate::texts::tree_text;
-use crate::users::{all_ids, ids};
-use arguments::format::Format;
+use crate::users::{all_ids, format_of, ids};
 use arguments::request::{Advise, Audit, Check, Everybody, Explain, May, Upgrade};
-use cg_cli::advise::advise_bytes;
-use cg_cli::advise_settle::advise_settled_bytes;
-use cg_cli::as_json::advise::advise_json_bytes;
-use cg_cli::as_json::advise_settle::advise_settled_json_bytes;
-use cg_cli::as_json::audit::audit_json_bytes;
-use cg_cli::as_json::audit_all::audit_all_json_bytes;
-use cg_cli::as_json::audit_settle::{audit_all_settled_json_bytes, audit_settled_json_bytes};
-use cg_cli::as_json::check::{check_json_bytes, settle_json_bytes};
-use cg_cli::as_json::explain::explain_json_bytes;
-use cg_cli::as_json::may::may_json_bytes;
-use cg_cli::audit::audit_bytes;
-use cg_cli::audit_all::audit_all_bytes;
-use cg_cli::audit_settle::{audit_all_settled_bytes, audit_settled_bytes};
-use cg_cli::check::check_bytes;
-use cg_cli::explain::explain_bytes;
-use cg_cli::may::may_bytes;
-use cg_cli::settle::settle_bytes;
+use cg_cli::advise::advise_bytes_in;
+use cg_cli::advise_settle::advise_settled_bytes_in;
+use cg_cli::audit::audit_bytes_in;
+use cg_cli::audit_all::audit_all_bytes_in;
+use cg_cli::audit_settle::{audit_all_settled_bytes_in, audit_settled_bytes_in};
+use cg_cli::check::check_bytes_in;
+use cg_cli::explain::explain_bytes_in;
+use cg_cli::may::may_bytes_in;
+use cg_cli::settle::settle_bytes_in;
 use cg_cli::upgrade::upgrade_bytes;
 use cg_faults::fault::CliFault;
 use cg_help::beside::Beside;
@@ -116,11 +107,11 @@ impl OnTree for May<'_> {
         beside: &mut Beside,
         out: &mut W,
     ) -> Result<u8, CliFault> {
-        let (user, missing) = (ids(&self.user), &mut beside.missing);
-        match self.format {
-            Format::Lines => may_bytes(alloc, tree, user, self.pid, self.to, missing, out),
-            Format::Json => may_json_bytes(alloc, tree, user, self.pid, self.to, missing, out),
-        }
+        let (format, user) = (format_of(self.format), ids(&self.user));
+        let missing = &mut beside.missing;
+        may_bytes_in(
+            alloc, format, tree, user, self.pid, self.to, missing, out,
+        )
     }
 }
 
@@ -144,11 +135,9 @@ impl OnTree for Check<'_> {
         beside: &mut Beside,
         out: &mut W,
     ) -> Result<u8, CliFault> {
-        let (user, stranger) = (ids(&self.user), &mut beside.stranger);
-        match self.format {
-            Format::Lines => check_bytes(alloc, tree, user, self.subtree, stranger, out),
-            Format::Json => check_json_bytes(alloc, tree, user, self.subtree, stranger, out),
-        }
+        let (format, user) = (format_of(self.format), ids(&self.user));
+        let stranger = &mut beside.stranger;
+        check_bytes_in(alloc, format, tree, user, self.subtree, stranger, out)
     }
 }
 
@@ -178,12 +167,9 @@ impl OnTree for Settling<'_, '_> {
         beside: &mut Beside,
         out: &mut W,
     ) -> Result<u8, CliFault> {
-        let (user, subtree) = (ids(&self.asked.user), self.asked.subtree);
-        let stranger = &mut beside.stranger;
-        match self.asked.format {
-            Format::Lines => settle_bytes(alloc, tree, user, subtree, stranger, out),
-            Format::Json => settle_json_bytes(alloc, tree, user, subtree, stranger, out),
-        }
+        let (format, user) = (format_of(self.asked.format), ids(&self.asked.user));
+        let (subtree, stranger) = (self.asked.subtree, &mut beside.stranger);
+        settle_bytes_in(alloc, format, tree, user, subtree, stranger, out)
     }
 }
 
@@ -209,31 +195,19 @@ impl OnTree for Audit<'_> {
     ) -> Result<u8, CliFault> {
         let users = all_ids(alloc, self.users.as_slice())?;
         let (users, subtrees) = (users.as_slice(), self.subtrees.as_slice());
-        let stranger = &mut beside.stranger;
-        match (self.format, self.settle, self.all) {
-            (Format::Lines, false, false) => {
-                audit_bytes(alloc, tree, users, subtrees, stranger, out)
+        let (format, stranger) = (format_of(self.format), &mut beside.stranger);
+        match (self.settle, self.all) {
+            (false, false) => {
+                audit_bytes_in(alloc, format, tree, users, subtrees, stranger, out)
             }
-            (Format::Lines, false, true) => {
-                audit_all_bytes(alloc, tree, users, subtrees, stranger, out)
+            (false, true) => {
+                audit_all_bytes_in(alloc, format, tree, users, subtrees, stranger, out)
             }
-            (Format::Lines, true, false) => {
-                audit_settled_bytes(alloc, tree, users, subtrees, stranger, out)
+            (true, false) => {
+                audit_settled_bytes_in(alloc, format, tree, users, subtrees, stranger, out)
             }
-            (Format::Lines, true, true) => {
-                audit_all_settled_bytes(alloc, tree, users, subtrees, stranger, out)
-            }
-            (Format::Json, false, false) => {
-                audit_json_bytes(alloc, tree, users, subtrees, stranger, out)
-            }
-            (Format::Json, false, true) => {
-                audit_all_json_bytes(alloc, tree, users, subtrees, stranger, out)
-            }
-            (Format::Json, true, false) => {
-                audit_settled_json_bytes(alloc, tree, users, subtrees, stranger, out)
-            }
-            (Format::Json, true, true) => {
-                audit_all_settled_json_bytes(alloc, tree, users, subtrees, stranger, out)
+            (true, true) => {
+                audit_all_settled_bytes_in(alloc, format, tree, users, subtrees, stranger, out)
             }
         }
     }
@@ -294,11 +268,8 @@ impl OnTree for Explain<'_> {
     ) -> Result<u8, CliFault> {
         let users = all_ids(alloc, self.users.as_slice())?;
         let (users, subtrees) = (users.as_slice(), self.subtrees.as_slice());
-        let stranger = &mut beside.stranger;
-        match self.format {
-            Format::Lines => explain_bytes(alloc, tree, users, subtrees, stranger, out),
-            Format::Json => explain_json_bytes(alloc, tree, users, subtrees, stranger, out),
-        }
+        let (format, stranger) = (format_of(self.format), &mut beside.stranger);
+        explain_bytes_in(alloc, format, tree, users, subtrees, stranger, out)
     }
 }
 
@@ -324,18 +295,11 @@ impl OnTree for Advise<'_> {
     ) -> Result<u8, CliFault> {
         let users = all_ids(alloc, self.users.as_slice())?;
         let (users, subtrees) = (users.as_slice(), self.subtrees.as_slice());
-        let stranger = &mut beside.stranger;
-        match (self.format, self.settle) {
-            (Format::Lines, false) => advise_bytes(alloc, tree, users, subtrees, stranger, out),
-            (Format::Lines, true) => {
-                advise_settled_bytes(alloc, tree, users, subtrees, stranger, out)
-            }
-            (Format::Json, false) => {
-                advise_json_bytes(alloc, tree, users, subtrees, stranger, out)
-            }
-            (Format::Json, true) => {
-                advise_settled_json_bytes(alloc, tree, users, subtrees, stranger, out)
-            }
+        let (format, stranger) = (format_of(self.format), &mut beside.stranger);
+        if self.settle {
+            advise_settled_bytes_in(alloc, format, tree, users, subtrees, stranger, out)
+        } else {
+            advise_bytes_in(alloc, format, tree, users, subtrees, stranger, out)
         }
     }
 }

@@ -1,6 +1,6 @@
 -- What is advised and listed where more is known than guards tell.
 use Rattle.std.proofs.Common.{◌≡◌, ◌≢◌, ℕ, Bool, true, false, cond, List, [], Option, Some, None, Result, Ok, Err, refl, ap, sym, ◌∙◌, subst, inl, inr}
-use Rattle.std.specs.Prelude.{◌⊎◌, codes}
+use Rattle.std.specs.Prelude.{◌⊎◌}
 use Rattle.std.specs.List.{All, flat_map}
 use Rattle.cg_cgroup.specs.Paths.{Names, same_path}
 use Rattle.cg_cgroup.specs.Identity.{Identity}
@@ -8,7 +8,7 @@ use Rattle.cg_model.specs.States.{State}
 use Rattle.cg_model.specs.WellFormed.{IsWellFormed}
 use Rattle.cg_model.specs.Clauses.{first}
 use Rattle.cg_model.specs.Once.{once}
-use Rattle.cg_model.specs.Checks.{subtree_faults, unless_fault}
+use Rattle.cg_model.specs.Checks.{subtree_faults}
 use Rattle.cg_model.specs.Guards.{IsSubtree}
 use Rattle.cg_model.specs.Several.{AreContained}
 use Rattle.cg_model.specs.Listed.{Listed}
@@ -17,9 +17,9 @@ use Rattle.cg_model.specs.declared.fault.CheckFault.{CheckFault}
 use Rattle.cg_second.specs.SecondRow.{AreSettled}
 use Rattle.cg_second.proofs.Runs.{are_settled}
 use Rattle.cg_advice.specs.AdviceLines.{advice_lines}
-use Rattle.cg_advice.specs.Found.{advice_parts}
-use Rattle.cg_cli.specs.Advising.{lines_report, all_pairs, advise_report}
-use Rattle.cg_cli.specs.AsJson.{parts_report, advice_json_report, advise_json_report, settled_json_report, advise_settled_json_report}
+use Rattle.cg_cli.specs.Advising.{as_lines, lines_report, all_pairs, advise_report_by}
+use Rattle.cg_cli.specs.Formats.{advice_in}
+use Rattle.cg_cli.specs.declared.format.Format.{Format}
 use Rattle.cg_cli.specs.Audits.{users_read, paths_read}
 use Rattle.cg_cli.specs.FurtherAdvice.{AreHeld, AreHeldAsNamed, AdvisesFurther}
 use Rattle.cg_cli.specs.AllPairs.{Listing, ReportsPairsBy}
@@ -27,10 +27,10 @@ use Rattle.cg_cli.specs.FurtherPairs.{listed_from, AreFurther, first_pair_status
 use Rattle.cg_cli.specs.Asking.{read_in_turn}
 use Rattle.cg_cli.specs.Audited.{AreKnownWithEach}
 use Rattle.cg_cli.specs.May.{tree_read}
-use Rattle.cg_cli.specs.SettledAdvice.{are_held, settled_lines, settled_advice, settled_report, advise_settled_report}
+use Rattle.cg_cli.specs.SettledAdvice.{are_held, settled_by, settled_advice, settled_report, advise_settled_report}
 use Rattle.cg_cli.specs.SettledPairs.{MayBeFound, MayFollow, MayReport, ReportsSettled}
 use Rattle.cg_cli.proofs.AdviseReports.{contained-unadvised}
-use Rattle.cg_cli.proofs.AsJson.{advise_settled_ending}
+use Rattle.cg_cli.proofs.FormatEndings.{advise_ending, advise_settled_ending}
 use Rattle.cg_cli.proofs.AuditOnce.{same_user-is, some_once, contained_once}
 use Rattle.cg_cli.proofs.FurtherAdvice.{rows_hold, advises_further}
 use Rattle.cg_cli.proofs.FurtherPairs.{are_further}
@@ -56,16 +56,18 @@ module _ (st : State) (given : List (ℕ × List ℕ)) (words : List (List ℕ))
       (subst (λ paths. AreHeld are.state users paths) (same_Ok are.subtrees subtrees (sym are.of_subtrees ∙ of_paths))
       (subst (λ who. AreHeld are.state who are.subtrees) (same_Ok are.users users (sym are.of_users ∙ of_users)) are.held))
 
-  further_told : users ≢ [] → (old new : Option (List ℕ)) (status : ℕ) → AdvisesFurther (Ok st) given words old new (Ok status)
-      → (Reports (advise_report (Ok st) given words) old new (Ok status)
-      ⊎ Reports (record { text = codes "contained\n"; ending = Ok 0 }) old new (Ok status))
+  further_told : (format : Format) → users ≢ [] → (old new : Option (List ℕ)) (status : ℕ)
+      → AdvisesFurther (advice_in format) (Ok st) given words old new (Ok status)
+      → (Reports (advise_report_by (advice_in format) (Ok st) given words) old new (Ok status)
+      ⊎ Reports (record { text = (advice_in format).none; ending = Ok 0 }) old new (Ok status))
       × (status ≡ 0 → AreHeld st users subtrees)
-  further_told some old new status (inl said) = (
+  further_told format some old new status (inl said) = (
     inl said,
     λ zero.
-        (all_contained_by_advice st given words users subtrees formed of_users of_paths some (said.0 ∙ ap Ok zero)).held,
+        (all_contained_by_advice st given words users subtrees formed of_users of_paths some
+        (sym (advise_ending format (Ok st) given words) ∙ said.0 ∙ ap Ok zero)).held,
   )
-  further_told some old new status (inr said) = (inr said.0, λ zero. as_read said.1)
+  further_told format some old new status (inr said) = (inr said.0, λ zero. as_read said.1)
 
   abbrev who_once : List Identity
   who_once = once same_user users
@@ -73,21 +75,22 @@ module _ (st : State) (given : List (ℕ × List ℕ)) (words : List (List ℕ))
   abbrev tops_once : List Names
   tops_once = once same_path subtrees
 
-  settled_is : advise_settled_report (Ok st) given words ≡ settled_report st who_once tops_once
+  settled_is : advise_settled_report as_lines (Ok st) given words ≡ settled_report as_lines st who_once tops_once
   settled_is =
       ap (λ u. report_on u (λ users. report_on (paths_read words)
-      (λ subtrees. settled_report st (once same_user users) (once same_path subtrees)))) of_users
-      ∙ ap (λ p. report_on p (λ subtrees. settled_report st who_once (once same_path subtrees))) of_paths
+      (λ subtrees. settled_report as_lines st (once same_user users) (once same_path subtrees)))) of_users
+      ∙ ap (λ p. report_on p (λ subtrees. settled_report as_lines st who_once (once same_path subtrees))) of_paths
 
   -- nothing is to be changed where the second row holds, or the first
-  settled_or_contained : users ≢ [] → (advise_settled_report (Ok st) given words).ending ≡ Ok 0
+  settled_or_contained : users ≢ [] → (advise_settled_report as_lines (Ok st) given words).ending ≡ Ok 0
       → AreSettled st who_once tops_once ⊎ AreContained st users subtrees
   settled_or_contained some is =
       let one =
-      report_ok (in_call (settled_advice st who_once tops_once)) lines_report 0 (ap (λ (r : Report). r.ending) (sym settled_is) ∙ is) in
+      report_ok (in_call (settled_advice as_lines st who_once tops_once)) lines_report 0
+      (ap (λ (r : Report). r.ending) (sym settled_is) ∙ is) in
       let stated =
-      unfaulted (first (flat_map (subtree_faults st) tops_once)) (settled_lines st who_once tops_once) one.0
-      (found_is (settled_advice st who_once tops_once) one.0 one.1) in
+      unfaulted (first (flat_map (subtree_faults st) tops_once)) (settled_by as_lines st who_once tops_once) one.0
+      (found_is (settled_advice as_lines st who_once tops_once) one.0 one.1) in
       by_row stated.0 (are_held st who_once tops_once) refl (stated.1 ∙ no_lines one.0 one.2)
     where
       by_row : first (flat_map (subtree_faults st) tops_once) ≡ None → (holds : Bool) → are_held st who_once tops_once ≡ holds
@@ -99,64 +102,26 @@ module _ (st : State) (given : List (ℕ × List ℕ)) (words : List (List ℕ))
           inr (contained_once users subtrees st
           (contained-unadvised st tops_once none who_once (λ _. formed) (sym nothing) (some_once same_user same_user-is users some)))
 
-  pub settled_told : users ≢ [] → (old new : Option (List ℕ)) (status : ℕ)
-      → Reports (advise_settled_report (Ok st) given words) old new (Ok status)
-      → Reports (advise_settled_report (Ok st) given words) old new (Ok status)
-      × (Reports (advise_report (Ok st) given words) old new (Ok status)
-      ⊎ Reports (record { text = codes "contained\n"; ending = Ok 0 }) old new (Ok status))
+  pub settled_told : (format : Format) → users ≢ [] → (old new : Option (List ℕ)) (status : ℕ)
+      → Reports (advise_settled_report (advice_in format) (Ok st) given words) old new (Ok status)
+      → Reports (advise_settled_report (advice_in format) (Ok st) given words) old new (Ok status)
+      × (Reports (advise_report_by (advice_in format) (Ok st) given words) old new (Ok status)
+      ⊎ Reports (record { text = (advice_in format).none; ending = Ok 0 }) old new (Ok status))
       × (status ≡ 0 → AreHeld st users subtrees × (AreSettled st who_once tops_once ⊎ AreContained st users subtrees))
-  settled_told some old new status said =
-      let told = further_told some old new status (advises_further (Ok st) given words old new (Ok status) well_formed said) in
-      (said, told.0, λ zero. (told.1 zero, settled_or_contained some (said.0 ∙ ap Ok zero)))
+  settled_told format some old new status said =
+      let told =
+      further_told format some old new status
+      (advises_further (advice_in format) (Ok st) given words old new (Ok status) well_formed said) in (
+        said,
+        told.0,
+        λ zero. (
+          told.1 zero,
+          settled_or_contained some (sym (advise_settled_ending format (Ok st) given words) ∙ said.0 ∙ ap Ok zero),
+        ),
+      )
     where
       well_formed : (other : State) → ◌≡◌ {A = Reading} (Ok st) (Ok other) → IsWellFormed other
       well_formed other is = subst IsWellFormed (same_Ok st other is) formed
-
-  -- the same as JSON
-
-  settled_json_is : advise_settled_json_report (Ok st) given words ≡ settled_json_report st who_once tops_once
-  settled_json_is =
-      ap (λ u. report_on u (λ users. report_on (paths_read words)
-      (λ subtrees. settled_json_report st (once same_user users) (once same_path subtrees)))) of_users
-      ∙ ap (λ p. report_on p (λ subtrees. settled_json_report st who_once (once same_path subtrees))) of_paths
-
-  advice_json_is : advise_json_report (Ok st) given words ≡ advice_json_report st tops_once (all_pairs who_once tops_once)
-  advice_json_is =
-      ap (λ u. report_on u (λ users. report_on (paths_read words)
-      (λ subtrees. advice_json_report st (once same_path subtrees) (all_pairs (once same_user users) (once same_path subtrees)))))
-      of_users
-      ∙ ap (λ p. report_on p (λ subtrees. advice_json_report st (once same_path subtrees) (all_pairs who_once (once same_path subtrees))))
-      of_paths
-
-  by_second_row : (holds : Bool) (fault : Option CheckFault) (old new : Option (List ℕ)) (status : ℕ)
-      → Reports (report_on (in_call (unless_fault fault (cond holds None (advice_parts st (all_pairs who_once tops_once))))) parts_report)
-      old new (Ok status)
-      → Reports (report_on (in_call (unless_fault fault (advice_parts st (all_pairs who_once tops_once)))) parts_report) old new (Ok status)
-      ⊎ Reports (parts_report None) old new (Ok status)
-  by_second_row false fault old new status said = inl said
-  by_second_row true None old new status said = inr said
-  by_second_row true (Some fault) old new status said =
-      let same : ◌≡◌ {A = Result ℕ CliFault} (Err (lifted_check fault)) (Ok status) = said.0 in
-      let never : ⊥ = cc in absurd never
-
-  -- with the status of lines, of which it doesn't matter what lay in a writer
-  pub settled_told_as_json : users ≢ [] → (old new : Option (List ℕ)) (status : ℕ)
-      → Reports (advise_settled_json_report (Ok st) given words) old new (Ok status)
-      → Reports (advise_settled_json_report (Ok st) given words) old new (Ok status)
-      × (Reports (advise_json_report (Ok st) given words) old new (Ok status) ⊎ Reports (parts_report None) old new (Ok status))
-      × (status ≡ 0 → AreHeld st users subtrees × (AreSettled st who_once tops_once ⊎ AreContained st users subtrees))
-  settled_told_as_json some old new status said =
-      let lines = settled_told some None None status (sym (advise_settled_ending (Ok st) given words) ∙ said.0, tt) in
-      let parts =
-      by_second_row (are_held st who_once tops_once) (first (flat_map (subtree_faults st) tops_once)) old new status
-      (subst (λ (r : Report). Reports r old new (Ok status)) settled_json_is said) in (
-        said,
-        elim parts [
-          | inl advice ↦ inl (subst (λ (r : Report). Reports r old new (Ok status)) (sym advice_json_is) advice)
-          | inr none ↦ inr none
-        ],
-        lines.2,
-      )
 
 -- ---- what is listed
 

@@ -12,12 +12,12 @@ use Rattle.cg_model.specs.declared.outcome.Refusal.{Refusal}
 use Rattle.cg_format.specs.Readings.{Reading}
 use Rattle.cg_lines.specs.Outcomes.{outcome_text}
 use Rattle.cg_cli.specs.Arguments.{user_read, pid_read, path_read}
-use Rattle.cg_cli.specs.May.{permission, move_report, tree_read, may_report}
+use Rattle.cg_cli.specs.May.{permission_text, permission_status, move_report, tree_read, may_report}
 use Rattle.cg_cli.specs.Reports.{Report, report_on}
 use Rattle.cg_faults.specs.declared.fault.CliFault.{CliFault}
 
 abbrev said_by : Op → List Refusal → Report
-said_by op found = let said : List ℕ × ℕ = permission op (first found) in record { text = said.0; ending = Ok said.1 }
+said_by op found = record { text = permission_text op (first found); ending = Ok (permission_status (first found)) }
 
 module _ (st : State) (uid : ℕ) (gids : List ℕ) (user : Identity) (number pid : ℕ) (word : List ℕ) (to : Names)
     (of_user : user_read uid gids ≡ Ok user) (of_pid : pid_read number ≡ Ok pid) (of_path : path_read word ≡ Ok to) where

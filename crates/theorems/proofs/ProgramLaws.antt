@@ -1,6 +1,6 @@
 -- What the program's status and its writers say, by the request that its words make.
 use Rattle.std.proofs.Common.{◌≡◌, ◌≢◌, ℕ, Bool, true, false, List, [], map, take, Option, Some, Result, Ok, Err, ap, sym, ◌∙◌, subst, inl, inr, ⊎_elim, ◌≤◌, length, refl, arith}
-use Rattle.std.specs.Prelude.{◌⊎◌, ◌↔◌, None, IsOk, IfSome, MatchBool, codes}
+use Rattle.std.specs.Prelude.{◌⊎◌, ◌↔◌, None, IsOk, IfSome, MatchBool}
 use Rattle.std.specs.Io.KnownBytes.{Keeps}
 use Rattle.std.specs.List.{All, AllByRecursion}
 use Rattle.std.specs.Option.{ok_or}
@@ -31,30 +31,26 @@ use Rattle.cg_lines.specs.OperationLines.{HaveLines}
 use Rattle.cg_report.specs.AnswerLines.{op_lines}
 use Rattle.cg_cli.specs.Advising.{all_pairs, paired, advise_report, advise_pairs_report, AreContainedAsNamed}
 use Rattle.cg_cli.specs.FurtherAdvice.{AreHeld}
-use Rattle.cg_cli.specs.FurtherPairs.{listed_from, AreFurther, first_pair_status}
+use Rattle.cg_cli.specs.FurtherPairs.{listed_from, AreFurther}
 use Rattle.cg_cli.specs.AllPairs.{all_report, ReportsPairsBy}
-use Rattle.cg_cli.specs.AsJson.{answer_json_report, parts_report, may_json_report, check_json_report, audit_json_report, advise_json_report, advise_pairs_json_report}
 use Rattle.cg_cli.specs.Asking.{CallEnding}
 use Rattle.cg_cli.specs.EachPair.{audit_pairs_report, explain_pairs_asked, UnlistedAsNamed}
-use Rattle.cg_cli.specs.Containment.{answer_report, check_report}
+use Rattle.cg_cli.specs.Containment.{answer_report_by, check_report}
 use Rattle.cg_cli.specs.Explaining.{explain_asked, ReportsToldBy}
-use Rattle.cg_cli.specs.Formats.{told_in, listing_in, first_in}
-use Rattle.cg_cli.specs.declared.format.Format.{Format}
-use Rattle.cg_cli.specs.declared.format.Format.TheVariants.{Lines, Json}
+use Rattle.cg_cli.specs.Formats.{permission_in, answer_in, advice_in, told_in, listing_in, first_in}
 use Rattle.cg_cli.specs.declared.everybody.Wanted.{Wanted}
 use Rattle.cg_cli.specs.Everybody.{everybody_report_in}
 use Rattle.cg_everybody.specs.Everybody.{GuardsHoldForEverybody}
 use Rattle.machine_everybody.specs.Everybody.{Everybody as Whom, IsAsked}
 use Rattle.cg_cli.specs.Settled.{IsSettledFrom}
 use Rattle.cg_cli.specs.May.{may_report}
-use Rattle.cg_cli.specs.Settling.{AskedReports, IsFurther}
+use Rattle.cg_cli.specs.Settling.{IsFurther}
 use Rattle.cg_cli.specs.Audits.{users_read, paths_read, audit_report}
 use Rattle.cg_cli.specs.Once.{same_user}
 use Rattle.cg_cli.specs.Replays.{closed_in, replay_report}
 use Rattle.cg_cli.specs.Replaying.{Reporting, Replays}
 use Rattle.cg_cli.specs.Reports.{Report, Reports}
-use Rattle.cg_cli.proofs.FormatEndings.{replay_ending}
-use Rattle.cg_cli.proofs.AsJson.{may_ending, check_ending, audit_ending, advise_ending, advise_pairs_ending}
+use Rattle.cg_cli.proofs.FormatEndings.{may_ending, check_ending, audit_ending, advise_ending, advise_pairs_ending, first_ends, replay_ending}
 use Rattle.cg_cli.specs.Upgrades.{Upgrades, IsNewText, upgrade_report}
 use Rattle.cg_faults.specs.declared.fault.CliFault.{CliFault}
 use Rattle.cg_faults.specs.declared.fault.CliFault.TheVariants.{Pid, BadPath}
@@ -62,7 +58,6 @@ use Rattle.clap.specs.declared.error.Error.{Error}
 use Rattle.arguments.specs.Words.{Makes}
 use Rattle.arguments.specs.Given.{ids_of, tree_file, other_file}
 use Rattle.arguments.specs.declared.format.Format.{Format as Written}
-use Rattle.arguments.specs.declared.format.Format.TheVariants as written_as
 use Rattle.arguments.specs.declared.request.May.{May}
 use Rattle.arguments.specs.declared.request.Check.{Check}
 use Rattle.arguments.specs.declared.request.Audit.{Audit}
@@ -78,17 +73,17 @@ use Rattle.arguments.specs.declared.request.Request.TheVariants as request
 use Rattle.streams.specs.declared.write.WriteFailed.{WriteFailed}
 use Rattle.commands.specs.PairLines.{GivenPair, pairs_read, AsksSomething}
 use Rattle.commands.specs.SubtreeLines.{subtrees_read, AreLinesOf}
-use Rattle.commands.specs.Requests.{Files, source, name_of, may_said, check_said, whom, wanted_of, everybody_asked, format_of, in_format, audit_said, advise_said, advise_settled_said, advise_pairs_said, replay_written, SettlesIn, SettlesAs, AdviseSays, AdvisesOn, AuditsOn, ExplainsOn, EverybodyOn, OnLines, OnBothTexts, GuardsSay, FurtherSay, AuditSays, ExplainSays, replay_said, OnTreeText, OnTree, ReplaysOver, CarriesOut}
+use Rattle.commands.specs.Requests.{Files, source, name_of, may_said, check_said, whom, wanted_of, everybody_asked, format_of, audit_said, advise_said, advise_settled_said, advise_pairs_said, replay_written, SettlesAs, AdviseSays, AdvisesOn, AuditsOn, ExplainsOn, EverybodyOn, OnLines, OnBothTexts, GuardsSay, FurtherSay, AuditSays, ExplainSays, replay_said, OnTreeText, OnTree, ReplaysOver, CarriesOut}
 use Rattle.commands.specs.Runs.{CarriesOutBuffered, LeadsTo, LiesBelow, RunsTo}
 use Rattle.commands.specs.declared.fault.Fault.{Fault}
 use Rattle.commands.specs.declared.fault.Fault.TheVariants.{Usage, Cli}
 use Rattle.commands.proofs.BufferedLaws.{CarriesOut-Keeps}
 use Rattle.commands.proofs.PairLaws.{asked_about}
 use Rattle.commands.proofs.SubtreeLaws.{are_lines}
-use Rattle.commands.proofs.YesLaws.{not_unread, flushed_is, ends_alike, everybody_ended as ended_by_lines}
+use Rattle.commands.proofs.YesLaws.{not_unread, flushed_is, everybody_ended as ended_by_lines}
 use Rattle.machine_answers.proofs.GuardedLaws.{named_read, contained_by_status}
 use Rattle.theorems.proofs.SettledLaws.{settled_as}
-use Rattle.theorems.proofs.FurtherLaws.{settled_told, settled_told_as_json, all_told, first_told}
+use Rattle.theorems.proofs.FurtherLaws.{settled_told, all_told, first_told}
 use Rattle.theorems.proofs.StatusLaws.{all_contained_by_status, all_contained_by_pairs, all_contained_by_advice}
 use Rattle.theorems.proofs.EverybodyLaws.{all_hold, all_contained}
 use Rattle.theorems.proofs.ExplainedLaws.{explained_contained}
@@ -213,14 +208,10 @@ subtrees_named format wanted asked lines (Err fault) is st old new status said =
 
 -- ---- how it is written
 
--- a report that ends alike in each format, and has a status
-ended_as : (format : Written) (lines json : Report) → json.ending ≡ lines.ending → (old new : Option (List ℕ)) (status : ℕ)
-    → Reports (in_format format lines json) old new (Ok status) → (wanted : ℕ) → status ≡ wanted → lines.ending ≡ Ok wanted
-ended_as format lines json same old new status report wanted is = sym (ends_alike format lines json same) ∙ report.0 ∙ ap Ok is
-
-first_ends : (format : Format) (pairs : List Listed) → (first_in format pairs).ending ≡ Ok (first_pair_status pairs)
-first_ends Lines pairs = refl
-first_ends Json pairs = refl
+-- a report that ends as that of lines, and has a status
+ended_as : (said lines : Report) → said.ending ≡ lines.ending → (old new : Option (List ℕ)) (status : ℕ)
+    → Reports said old new (Ok status) → (wanted : ℕ) → status ≡ wanted → lines.ending ≡ Ok wanted
+ended_as said lines same old new status report wanted is = sym same ∙ report.0 ∙ ap Ok is
 
 -- ---- command by command
 
@@ -246,9 +237,9 @@ module _ (files : Files) (given old new : Option (List ℕ)) (status : ℕ) wher
               nothing_bars st may.user.uid may.user.gids.items user may.pid pid may.to.now to
               (named_read may.user.uid may.user.gids.items user of_user)
               (ap (λ (found : Option ℕ). ok_or found Pid) of_pid) (ap (λ (found : Option Names). ok_or found BadPath) of_path)
-              (ended_as may.format (may_report (Ok st) may.user.uid may.user.gids.items may.pid may.to.now)
-              (may_json_report (Ok st) may.user.uid may.user.gids.items may.pid may.to.now)
-              (may_ending (Ok st) may.user.uid may.user.gids.items may.pid may.to.now) old new status report 0 zero),
+              (ended_as (may_said may (Ok st)) (may_report (Ok st) may.user.uid may.user.gids.items may.pid may.to.now)
+              (may_ending (permission_in (format_of may.format)) (Ok st) may.user.uid may.user.gids.items may.pid may.to.now) old new
+              status report 0 zero),
         )
 
     pub check_ended : (check : Check) → CarriesOut (request.Check check) files given old new (Ok status)
@@ -263,9 +254,9 @@ module _ (files : Files) (given old new : Option (List ℕ)) (status : ℕ) wher
           report,
           λ zero user subtree of_user of_path.
               contained_by_status text st check.user.uid check.user.gids.items user check.subtree.now subtree of_text of_user of_path
-              (ended_as check.format (check_report (Ok st) check.user.uid check.user.gids.items check.subtree.now)
-              (check_json_report (Ok st) check.user.uid check.user.gids.items check.subtree.now)
-              (check_ending (Ok st) check.user.uid check.user.gids.items check.subtree.now) old new status report 0 zero),
+              (ended_as (check_said check (Ok st)) (check_report (Ok st) check.user.uid check.user.gids.items check.subtree.now)
+              (check_ending (answer_in (format_of check.format)) (Ok st) check.user.uid check.user.gids.items check.subtree.now) old new
+              status report 0 zero),
         )
 
     pub everybody_ended : (asked : Everybody) (subtrees : List Names)
@@ -320,30 +311,16 @@ module _ (files : Files) (given old new : Option (List ℕ)) (status : ℕ) wher
         → source files (name_of check.tree) given ≡ Some text → IsTextOf st text
         → user_of check.user.uid check.user.gids.items ≡ Some user → path_at check.subtree.now ≡ Some subtree
         → (found : Answer)
-        × Reports (in_format check.format (answer_report subtree found) (answer_json_report subtree found)) old new (Ok status)
+        × Reports (answer_report_by (answer_in (format_of check.format)) subtree found) old new (Ok status)
         × IsSettledFrom st user subtree (answer st user subtree) found
         × IsFurther st user subtree (answer st user subtree) found
         × (found ≡ Contained → IsContained st user subtree)
         × ((ops : List Op) → found ≡ Escapes ops → ¬ (IsHeld st (by_user user ops) subtree))
     settle_ended check user subtree carried of_known of_text of_user of_path =
-        by_format check.format
+        settled_as (answer_report_by (answer_in (format_of check.format))) st user subtree check.user.uid check.user.gids.items
+        check.subtree.now of_user of_path of_text.says.formed old new status
         (on_state (SettlesAs check old new (Ok status)) (source files (name_of check.tree) given) old new status text st of_known of_text
         carried)
-      where
-        by_format : (format : Written)
-            → AskedReports (SettlesIn format) (Ok st) check.user.uid check.user.gids.items check.subtree.now old new (Ok status)
-            → (found : Answer)
-            × Reports (in_format format (answer_report subtree found) (answer_json_report subtree found)) old new (Ok status)
-            × IsSettledFrom st user subtree (answer st user subtree) found
-            × IsFurther st user subtree (answer st user subtree) found
-            × (found ≡ Contained → IsContained st user subtree)
-            × ((ops : List Op) → found ≡ Escapes ops → ¬ (IsHeld st (by_user user ops) subtree))
-        by_format written_as.Lines reported =
-            settled_as answer_report st user subtree check.user.uid check.user.gids.items check.subtree.now of_user of_path
-            of_text.says.formed old new status reported
-        by_format written_as.Json reported =
-            settled_as answer_json_report st user subtree check.user.uid check.user.gids.items check.subtree.now of_user of_path
-            of_text.says.formed old new status reported
 
     pub advise_pairs_ended : (asked : Pairs) (pairs : List ℕ) → CarriesOut (request.AdvisePairs asked) files given old new (Ok status)
         → source files (tree_file asked.sources) given ≡ Some text → source files (other_file asked.sources) given ≡ Some pairs
@@ -364,8 +341,8 @@ module _ (files : Files) (given old new : Option (List ℕ)) (status : ℕ) wher
           said.3,
           λ users subtrees of_users of_paths.
               λ zero. contained_as_they_are st said.0 users subtrees of_text.says.formed of_users of_paths
-              (ended_as asked.format (advise_pairs_report (Ok st) said.0) (advise_pairs_json_report (Ok st) said.0)
-              (advise_pairs_ending (Ok st) said.0) old new status said.3 0 zero),
+              (ended_as (advise_pairs_said asked.format (Ok st) said.0) (advise_pairs_report (Ok st) said.0)
+              (advise_pairs_ending (format_of asked.format) (Ok st) said.0) old new status said.3 0 zero),
         )
 
     pub audit_pairs_ended : (asked : Pairs) (pairs : List ℕ) → CarriesOut (request.AuditPairs asked) files given old new (Ok status)
@@ -475,32 +452,20 @@ module _ (files : Files) (given old new : Option (List ℕ)) (status : ℕ) wher
             report,
             λ zero users subtrees of_users of_paths some.
                 all_contained_by_advice st who paths users subtrees of_text.says.formed of_users of_paths some
-                (ended_as advise.format (advise_report (Ok st) who paths) (advise_json_report (Ok st) who paths)
-                (advise_ending (Ok st) who paths) old new status report 0 zero),
+                (ended_as (advise_said advise.format (Ok st) who paths) (advise_report (Ok st) who paths)
+                (advise_ending (format_of advise.format) (Ok st) who paths) old new status report 0 zero),
           )
 
       pub advise_settled_ended : (users : List Identity) (subtrees : List Names) → advise.settle ≡ true → users_read who ≡ Ok users
           → paths_read paths ≡ Ok subtrees → users ≢ []
           → Reports (advise_settled_said advise.format (Ok st) who paths) old new (Ok status)
           × (Reports (advise_said advise.format (Ok st) who paths) old new (Ok status)
-          ⊎ Reports (in_format advise.format (record { text = codes "contained\n"; ending = Ok 0 }) (parts_report None)) old new
-          (Ok status))
+          ⊎ Reports (record { text = (advice_in (format_of advise.format)).none; ending = Ok 0 }) old new (Ok status))
           × (status ≡ 0 → AreHeld st users subtrees
           × (AreSettled st (once same_user users) (once same_path subtrees) ⊎ AreContained st users subtrees))
       advise_settled_ended users subtrees further of_users of_paths some =
-          by_format advise.format (each_alone _ _ advise.settle further told)
-        where
-          by_format : (format : Written)
-              → Reports (advise_settled_said format (Ok st) who paths) old new (Ok status)
-              → Reports (advise_settled_said format (Ok st) who paths) old new (Ok status)
-              × (Reports (advise_said format (Ok st) who paths) old new (Ok status)
-              ⊎ Reports (in_format format (record { text = codes "contained\n"; ending = Ok 0 }) (parts_report None)) old new (Ok status))
-              × (status ≡ 0 → AreHeld st users subtrees
-              × (AreSettled st (once same_user users) (once same_path subtrees) ⊎ AreContained st users subtrees))
-          by_format written_as.Lines =
-              settled_told st who paths users subtrees of_text.says.formed of_users of_paths some old new status
-          by_format written_as.Json =
-              settled_told_as_json st who paths users subtrees of_text.says.formed of_users of_paths some old new status
+          settled_told st who paths users subtrees of_text.says.formed of_users of_paths (format_of advise.format) some old new status
+          (each_alone _ _ advise.settle further told)
 
     pub explain_ended : (explain : Explain) → CarriesOut (request.Explain explain) files given old new (Ok status)
         → source files (name_of explain.tree) given ≡ Some text → IsTextOf st text
@@ -556,8 +521,8 @@ module _ (files : Files) (given old new : Option (List ℕ)) (status : ℕ) wher
             report,
             λ zero who paths of_users of_paths some.
                 all_contained_by_status st users subtrees who paths of_text.says.formed of_users of_paths some
-                (ended_as audit.format (audit_report (Ok st) users subtrees) (audit_json_report (Ok st) users subtrees)
-                (audit_ending (Ok st) users subtrees) old new status report 0 zero),
+                (ended_as (audit_said audit.format (Ok st) users subtrees) (audit_report (Ok st) users subtrees)
+                (audit_ending (format_of audit.format) (Ok st) users subtrees) old new status report 0 zero),
           )
 
       -- where more is known

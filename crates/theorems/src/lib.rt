@@ -49,16 +49,15 @@ ghost use Rattle.cg_cli.specs.Arguments.{user_read, pid_read, path_read};
 ghost use Rattle.cg_cli.specs.May.{may_report};
 ghost use Rattle.cg_cli.specs.Courses.{verdict_status};
 ghost use Rattle.cg_cli.specs.Replays.{is_newline, longest_line, outcome_of, replay_report};
-ghost use Rattle.cg_cli.specs.Containment.{answer_report, check_report};
+ghost use Rattle.cg_cli.specs.Containment.{answer_report_by, check_report};
 ghost use Rattle.cg_cli.specs.Settled.{IsSettledFrom};
 ghost use Rattle.cg_cli.specs.Settling.{IsFurther};
 ghost use Rattle.cg_cli.specs.Audited.{AreKnownWithEach};
 ghost use Rattle.cg_cli.specs.Audits.{users_read, paths_read, audit_report};
 ghost use Rattle.cg_cli.specs.Once.{same_user};
 ghost use Rattle.cg_cli.specs.AllPairs.{all_report, ReportsPairsBy, UnlistedAreContained};
-ghost use Rattle.cg_cli.specs.AsJson.{answer_json_report, parts_report};
 ghost use Rattle.cg_cli.specs.Explaining.{explain_asked, ReportsToldBy};
-ghost use Rattle.cg_cli.specs.Formats.{told_in, listing_in, first_in};
+ghost use Rattle.cg_cli.specs.Formats.{answer_in, advice_in, told_in, listing_in, first_in};
 ghost use Rattle.cg_cli.specs.Everybody.{everybody_report, everybody_report_in};
 ghost use Rattle.cg_cli.specs.declared.everybody.Wanted.TheVariants.{Advise as AdviseWanted};
 ghost use Rattle.cg_everybody.specs.Advice.{everybody_advice, everybody_advised, IsAdvisedToEverybody};
@@ -93,7 +92,7 @@ ghost use Rattle.arguments.specs.declared.request.Request.{Request};
 ghost use Rattle.arguments.specs.declared.request.Request.TheVariants as request;
 ghost use Rattle.commands.specs.PairLines.{pairs_read, AsksSomething};
 ghost use Rattle.commands.specs.SubtreeLines.{subtrees_read, AreLinesOf};
-ghost use Rattle.commands.specs.Requests.{Files, source, name_of, may_said, check_said, whom, wanted_of, everybody_asked, format_of, in_format, audit_said, advise_said, advise_settled_said, advise_pairs_said, replay_written, CarriesOut};
+ghost use Rattle.commands.specs.Requests.{Files, source, name_of, may_said, check_said, whom, wanted_of, everybody_asked, format_of, audit_said, advise_said, advise_settled_said, advise_pairs_said, replay_written, CarriesOut};
 ghost use Rattle.commands.specs.Runs.{LeadsTo, RunsTo};
 ghost use Rattle.commands.specs.declared.fault.Fault.{Fault};
 ghost use Rattle.streams.specs.declared.write.WriteFailed.{WriteFailed};
@@ -298,7 +297,7 @@ pub fn the_program()
         → source files (name_of check.tree) given ≡ Some text → IsTextOf st text
         → user_of check.user.uid check.user.gids.items ≡ Some user → path_at check.subtree.now ≡ Some subtree
         → (found : Answer)
-        × Reports (in_format check.format (answer_report subtree found) (answer_json_report subtree found)) old new (Ok status)
+        × Reports (answer_report_by (answer_in (format_of check.format)) subtree found) old new (Ok status)
         × IsSettledFrom st user subtree (answer st user subtree) found
         × IsFurther st user subtree (answer st user subtree) found
         × (found ≡ Contained → IsContained st user subtree)
@@ -394,7 +393,7 @@ pub fn the_program()
         old new (Ok status)
         × (Reports (advise_said advise.format (Ok st) (map ids_of advise.users.items) (map (λ subtree. subtree.now) advise.subtrees.items)) old
         new (Ok status)
-        ⊎ Reports (in_format advise.format (record { text = codes "contained\n"; ending = Ok 0 }) (parts_report None)) old new (Ok status))
+        ⊎ Reports (record { text = (advice_in (format_of advise.format)).none; ending = Ok 0 }) old new (Ok status))
         × (status ≡ 0 → AreHeld st users subtrees
         × (AreSettled st (once same_user users) (once same_path subtrees) ⊎ AreContained st users subtrees)) }
     ensures advise_pairs { (asked : Pairs) (files : Files) (given old new : Option (List ℕ)) (status : ℕ) (text pairs : List ℕ) (st : State)

@@ -2,7 +2,8 @@
 use super::changed::{MEMORY_MAX_OWNED, delegation_with};
 use super::readers::Pieces;
 use crate::tests::users::USER;
-use cg_cli::as_json::replay::{replay_json_bytes, replay_json_from};
+use cg_cli::format::Format;
+use cg_cli::replay::{replay_bytes_in, replay_from_in};
 use std::test::Fail;
 
 /// Operations of user 1000 where they own `memory.max` of `/c0`, what is said of each and of `/c0`, and the status.
@@ -33,12 +34,28 @@ fn a_replay_is_an_object_a_line(rt: HostRuntime) -> Result<(), Fail> {
     let tree = tree.as_bytes();
     for (ops, report, status) in REPLAYED {
         let mut out = Vec::new(alloc);
-        let ended = replay_json_bytes(alloc, tree, USER, Some("/c0"), ops.as_bytes(), &mut out);
+        let ended = replay_bytes_in(
+            alloc,
+            Format::Json,
+            tree,
+            USER,
+            Some("/c0"),
+            ops.as_bytes(),
+            &mut out,
+        );
         assert_eq!(rt; ended, Ok(status));
         assert_eq!(rt; out.as_slice(), report.as_bytes());
         let mut out = Vec::new(alloc);
         let mut pieces = Pieces::new(ops.as_bytes(), 7);
-        let ended = replay_json_from(alloc, tree, USER, Some("/c0"), &mut pieces, &mut out);
+        let ended = replay_from_in(
+            alloc,
+            Format::Json,
+            tree,
+            USER,
+            Some("/c0"),
+            &mut pieces,
+            &mut out,
+        );
         assert_eq!(rt; ended, Ok(status));
         assert_eq!(rt; out.as_slice(), report.as_bytes());
     }

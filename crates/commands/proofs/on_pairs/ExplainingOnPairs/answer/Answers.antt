@@ -1,7 +1,4 @@
 use Rattle.commands.proofs.on_pairs.ExplainingOnPairs.answer.Goals as goal
 
-pub returns-in-Lines : goal.returns-in-Lines
-returns-in-Lines g c = rw c.in-Lines.is c.explain_pairs_bytes.ensures
-
-pub returns-in-Json : goal.returns-in-Json
-returns-in-Json g c = rw c.in-Json.is c.explain_pairs_json_bytes.ensures
+pub returns : goal.returns
+returns g c = rw c.format_of.ensures at c.explain_pairs_bytes_in.ensures

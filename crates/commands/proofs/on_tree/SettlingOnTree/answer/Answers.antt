@@ -1,10 +1,6 @@
 use Rattle.std.proofs.Common.{inl}
 use Rattle.commands.proofs.on_tree.SettlingOnTree.answer.Goals as goal
 
-pub returns-in-Lines-clause-answer : goal.returns-in-Lines-clause-answer
-returns-in-Lines-clause-answer g c =
-    let said = rw (c.ids-user.ensures.uid, c.ids-user.ensures.gids) at c.settle_bytes.ensures.report in rw c.in-Lines.is (inl said)
-
-pub returns-in-Json-clause-answer : goal.returns-in-Json-clause-answer
-returns-in-Json-clause-answer g c =
-    let said = rw (c.ids-user.ensures.uid, c.ids-user.ensures.gids) at c.settle_json_bytes.ensures.report in rw c.in-Json.is (inl said)
+pub returns-clause-answer : goal.returns-clause-answer
+returns-clause-answer g c =
+    inl (rw (c.format_of-format.ensures, c.ids-user.ensures.uid, c.ids-user.ensures.gids) at c.settle_bytes_in.ensures.report)
