@@ -296,10 +296,9 @@ impl OnTree for Advise<'_> {
         let users = all_ids(alloc, self.users.as_slice())?;
         let (users, subtrees) = (users.as_slice(), self.subtrees.as_slice());
         let (format, stranger) = (format_of(self.format), &mut beside.stranger);
-        if self.settle {
-            advise_settled_bytes_in(alloc, format, tree, users, subtrees, stranger, out)
-        } else {
-            advise_bytes_in(alloc, format, tree, users, subtrees, stranger, out)
+        match self.settle {
+            false => advise_bytes_in(alloc, format, tree, users, subtrees, stranger, out),
+            true => advise_settled_bytes_in(alloc, format, tree, users, subtrees, stranger, out),
         }
     }
 }
