@@ -1,5 +1,5 @@
 -- The JSON object of the advice. Own.
-use Rattle.std.specs.Prelude.{List, ◌++◌, map, Option, Some, None, codes}
+use Rattle.std.specs.Prelude.{List, ◌++◌, map, codes}
 use Rattle.cg_cgroup.specs.Paths.{path_text}
 use Rattle.cg_model.specs.GuardNames.{guard_name}
 use Rattle.cg_model.specs.declared.guard.Guard.TheVariants.{AlreadyOver}
@@ -7,7 +7,6 @@ use Rattle.cg_advice.specs.Found.{Let, Raised}
 use Rattle.serde_json.specs.Data.{Data, array, object, Members, no_members, put}
 use Rattle.serde_json.specs.View.{items_of}
 use Rattle.cg_json.specs.Members.{put_text}
-use Rattle.cg_json.specs.Answers.{contained_members}
 use Rattle.cg_json.specs.Entries.{at_guard, entry_members, classes_value, changes_by, changes_value}
 
 -- an entry, by which classes users get in, and what mends it for all of them
@@ -29,8 +28,3 @@ failing_members stands overs = put (codes "fails") (fails_value stands overs) (p
 
 abbrev pub failing_value : List Let → List Raised → Data
 failing_value stands overs = object (failing_members stands overs)
-
--- contained where nothing is to be changed, else all that fails
-abbrev pub advice_value : Option (List Let × List Raised) → Data
-advice_value None = object contained_members
-advice_value (Some parts) = failing_value parts.0 parts.1
