@@ -35,8 +35,8 @@ as_lines = record { none = contained_line; some = advice_lines }
 
 -- that nothing is to be changed, with status 0, and else what is, with status 1
 abbrev pub told_report : List ℕ → Option (List ℕ) → Report
-told_report none None = record { text = none; ending = Ok 0 }
-told_report none (Some text) = record { text = text; ending = Ok 1 }
+told_report nothing None = record { text = nothing; ending = Ok 0 }
+told_report nothing (Some text) = record { text = text; ending = Ok 1 }
 
 abbrev pub lines_report : Option (List ℕ) → Report
 lines_report found = told_report contained_line found

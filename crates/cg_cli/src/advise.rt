@@ -63,15 +63,7 @@ pub fn advise_bytes<W: Write>(
         → paths_read (map (λ subtree. subtree.now) subtrees.now) ≡ Ok paths → who ≢ [] → AreContained st who paths }
     ensures stranger { IsFirstStranger tree.now (map (λ user. (user.uid, user.gids.now)) users.now) result stranger.new }
 {
-    advise_bytes_in(
-        alloc,
-        Format::Lines,
-        tree,
-        users,
-        subtrees,
-        stranger,
-        out,
-    )
+    advise_bytes_in(alloc, Format::Lines, tree, users, subtrees, stranger, out)
 }
 
 /// The same, written as a format says: as JSON, the object of that advice, which reads as it.

@@ -51,15 +51,7 @@ pub fn advise_settled_bytes<W: Write>(
         (W.contents out.old) (W.contents out.new) result) }
     ensures stranger { IsFirstStranger tree.now (map (λ user. (user.uid, user.gids.now)) users.now) result stranger.new }
 {
-    advise_settled_bytes_in(
-        alloc,
-        Format::Lines,
-        tree,
-        users,
-        subtrees,
-        stranger,
-        out,
-    )
+    advise_settled_bytes_in(alloc, Format::Lines, tree, users, subtrees, stranger, out)
 }
 
 /// The same, written as a format says: as JSON, the object of that advice, which reads as it.

@@ -56,15 +56,7 @@ pub fn audit_bytes<W: Write>(
         → paths_read (map (λ subtree. subtree.now) subtrees.now) ≡ Ok paths → who ≢ [] → AreContained st who paths }
     ensures stranger { IsFirstStranger tree.now (map (λ user. (user.uid, user.gids.now)) users.now) result stranger.new }
 {
-    audit_bytes_in(
-        alloc,
-        Format::Lines,
-        tree,
-        users,
-        subtrees,
-        stranger,
-        out,
-    )
+    audit_bytes_in(alloc, Format::Lines, tree, users, subtrees, stranger, out)
 }
 
 /// The same, written as a format says: as JSON, the object of that answer, which reads as it, and a pair's user is named with all their

@@ -63,15 +63,7 @@ pub fn audit_all_bytes<W: Write>(
         → UnlistedAreContained st (once same_user who) (once same_path paths)) }
     ensures stranger { IsFirstStranger tree.now (map (λ user. (user.uid, user.gids.now)) users.now) result stranger.new }
 {
-    audit_all_bytes_in(
-        alloc,
-        Format::Lines,
-        tree,
-        users,
-        subtrees,
-        stranger,
-        out,
-    )
+    audit_all_bytes_in(alloc, Format::Lines, tree, users, subtrees, stranger, out)
 }
 
 /// The same, written as a format says: as JSON, an object on a line for each pair, or that of `contained`, which reads as it.

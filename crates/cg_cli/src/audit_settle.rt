@@ -72,15 +72,7 @@ pub fn audit_all_settled_bytes<W: Write>(
         → TellsUnsettled in_lines st (once same_user who) (once same_path paths) (W.contents out.old) (W.contents out.new)) }
     ensures stranger { IsFirstStranger tree.now (map (λ user. (user.uid, user.gids.now)) users.now) result stranger.new }
 {
-    audit_all_settled_bytes_in(
-        alloc,
-        Format::Lines,
-        tree,
-        users,
-        subtrees,
-        stranger,
-        out,
-    )
+    audit_all_settled_bytes_in(alloc, Format::Lines, tree, users, subtrees, stranger, out)
 }
 
 /// The same, written as a format says: as JSON, an object on a line for each pair, or that of `contained`, which reads as it.
@@ -154,15 +146,7 @@ pub fn audit_settled_bytes<W: Write>(
         (W.contents out.old) (W.contents out.new) result) }
     ensures stranger { IsFirstStranger tree.now (map (λ user. (user.uid, user.gids.now)) users.now) result stranger.new }
 {
-    audit_settled_bytes_in(
-        alloc,
-        Format::Lines,
-        tree,
-        users,
-        subtrees,
-        stranger,
-        out,
-    )
+    audit_settled_bytes_in(alloc, Format::Lines, tree, users, subtrees, stranger, out)
 }
 
 /// The same, written as a format says: as JSON, the object of that answer, which reads as it, and a pair's user is named with all their

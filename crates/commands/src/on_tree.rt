@@ -109,9 +109,7 @@ impl OnTree for May<'_> {
     ) -> Result<u8, CliFault> {
         let (format, user) = (format_of(self.format), ids(&self.user));
         let missing = &mut beside.missing;
-        may_bytes_in(
-            alloc, format, tree, user, self.pid, self.to, missing, out,
-        )
+        may_bytes_in(alloc, format, tree, user, self.pid, self.to, missing, out)
     }
 }
 
