@@ -131,7 +131,8 @@ module _ (st : State) (pairs : List Pair) where
   by_fault format (Some fault) = refl
 
   by_row : (format : Format) (fault : Option CheckFault) (held : Bool)
-      → (report_on (in_call (unless_fault fault (cond held None (changes_in format st pairs)))) (told_report (advice_in format).none)).ending
+      → (report_on (in_call (unless_fault fault (cond held None (changes_in format st pairs))))
+      (told_report (advice_in format).none)).ending
       ≡ (report_on (in_call (unless_fault fault (cond held None (advice_lines st pairs)))) lines_report).ending
   by_row format None true = refl
   by_row format None false = told_ending format (advice_in format).none

@@ -16,8 +16,8 @@ use Rattle.cg_faults.specs.declared.fault.CliFault.{CliFault}
 use Rattle.cg_faults.specs.declared.fault.CliFault.TheVariants.{NoMemory}
 
 -- A move that is read, and of which memory was refused.
-pub unsaid : (text : PermissionText) (read : Reading) (uid : ℕ) (gids : List ℕ) (pid : ℕ) (to : List ℕ) (user : Identity) (number : ℕ) (path : Names)
-    (st : State) → user_read uid gids ≡ Ok user → pid_read pid ≡ Ok number → path_read to ≡ Ok path → read ≡ Ok st
+pub unsaid : (text : PermissionText) (read : Reading) (uid : ℕ) (gids : List ℕ) (pid : ℕ) (to : List ℕ) (user : Identity) (number : ℕ)
+    (path : Names) (st : State) → user_read uid gids ≡ Ok user → pid_read pid ≡ Ok number → path_read to ≡ Ok path → read ≡ Ok st
     → (known : Option (List ℕ)) (result : Result ℕ CliFault) → result ≡ Err NoMemory
     → Reports (may_report_by text read uid gids pid to) known known result
 unsaid text read uid gids pid to user number path st is_user is_pid is_path is_tree known result refused =

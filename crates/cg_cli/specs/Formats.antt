@@ -45,7 +45,8 @@ audit_in Json = λ users subtrees found. json_line (audit_value users subtrees f
 -- A line names the uid alone, and an object the groups too, as they stand where the user is named first.
 abbrev pub audit_report_in : Format → Reading → List (ℕ × List ℕ) → List (List ℕ) → Report
 audit_report_in Lines = audit_report
-audit_report_in Json = named_report (λ st users subtrees. pairs_report_by (audit_in Json) st (once same_user users) (once same_path subtrees))
+audit_report_in Json =
+    named_report (λ st users subtrees. pairs_report_by (audit_in Json) st (once same_user users) (once same_path subtrees))
 
 abbrev pub told_in : Format → Writing
 told_in Lines = pair_lines

@@ -43,8 +43,8 @@ pub fn advise_settled_bytes<W: Write>(
     stranger: &mut Option<u32>,
     out: &mut W,
 ) -> Result<u8, CliFault>
-    ensures report { OnText tree.now (λ read. Reports
-        (advise_settled_report as_lines read (map (λ user. (user.uid, user.gids.now)) users.now) (map (λ subtree. subtree.now) subtrees.now))
+    ensures report { OnText tree.now (λ read. Reports (advise_settled_report as_lines read
+        (map (λ user. (user.uid, user.gids.now)) users.now) (map (λ subtree. subtree.now) subtrees.now))
         (W.contents out.old) (W.contents out.new) result) }
     ensures further { OnText tree.now (λ read. AdvisesFurther as_lines read
         (map (λ user. (user.uid, user.gids.now)) users.now) (map (λ subtree. subtree.now) subtrees.now)

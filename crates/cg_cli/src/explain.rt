@@ -57,8 +57,8 @@ pub fn explain_bytes<W: Write>(
     explain_bytes_in(alloc, Format::Lines, tree, users, subtrees, stranger, out)
 }
 
-/// The same, written as a format says: as JSON, an object on a line for each pair, which reads as it, and a pair's user is named with all their
-/// groups.
+/// The same, written as a format says: as JSON, an object on a line for each pair, which reads as it, and a pair's user is named with all
+/// their groups.
 ///
 /// # Errors
 /// Those of `explain_bytes`.

@@ -10,4 +10,5 @@ returns-in-None g c = ap (option_map (λ (parts : List Let × List Raised). json
 
 pub returns-in-Some : goal.returns-in-Some
 returns-in-Some g c =
-    ap Some c.in_ok-text.ensures.0 ∙ ap (option_map (λ (parts : List Let × List Raised). json_line (failing_value parts.0 parts.1))) c.in-Some.ensures
+    ap Some c.in_ok-text.ensures.0
+    ∙ ap (option_map (λ (parts : List Let × List Raised). json_line (failing_value parts.0 parts.1))) c.in-Some.ensures

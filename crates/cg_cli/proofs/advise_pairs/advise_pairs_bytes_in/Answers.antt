@@ -10,8 +10,8 @@ returns-clause-report g c =
     let asked = c.ask_pairs.ensures in (
       asked.0,
       asked.1,
-      advised_said (advice_in c.args.format) asked.0 c.args.pairs.now (g.W.Write.contents c.args.out.now) (g.W.Write.contents c.ask_pairs.new.out)
-          c.ask_pairs.result asked.2,
+      advised_said (advice_in c.args.format) asked.0 c.args.pairs.now (g.W.Write.contents c.args.out.now)
+          (g.W.Write.contents c.ask_pairs.new.out) c.ask_pairs.result asked.2,
     )
 
 pub returns-clause-contained : goal.returns-clause-contained

@@ -9,8 +9,8 @@ returns-clause-report g c =
     let asked = c.ask_pairs.ensures in (
       asked.0,
       asked.1,
-      audit_said (listing_in c.args.format) asked.0 c.args.pairs.now (g.W.Write.contents c.args.out.now) (g.W.Write.contents c.ask_pairs.new.out)
-          c.ask_pairs.result asked.2,
+      audit_said (listing_in c.args.format) asked.0 c.args.pairs.now (g.W.Write.contents c.args.out.now)
+          (g.W.Write.contents c.ask_pairs.new.out) c.ask_pairs.result asked.2,
     )
 
 pub returns-clause-unlisted : goal.returns-clause-unlisted

@@ -7,6 +7,6 @@ returns g c =
     let asked = c.ask_pairs.ensures in (
       asked.0,
       asked.1,
-      explain_said (told_in c.args.format) asked.0 c.args.pairs.now (g.W.Write.contents c.args.out.now) (g.W.Write.contents c.ask_pairs.new.out)
-          c.ask_pairs.result asked.2,
+      explain_said (told_in c.args.format) asked.0 c.args.pairs.now (g.W.Write.contents c.args.out.now)
+          (g.W.Write.contents c.ask_pairs.new.out) c.ask_pairs.result asked.2,
     )

@@ -18,7 +18,8 @@ returns-clause-further g c =
         asked.2.0,
         says_more asked.0 c.args.user.uid c.args.user.gids.now c.args.subtree.now (FurtherSaysBy text IsSettledFrom)
             (FurtherSaysBy text IsFurther)
-            (λ st user path of_tree. further st user path text (formed_read c.args.tree.now asked.0 asked.1 st of_tree)) asked.2.0 asked.2.1,
+            (λ st user path of_tree. further st user path text (formed_read c.args.tree.now asked.0 asked.1 st of_tree)) asked.2.0
+            asked.2.1,
         asked.2.2,
       ),
     )
