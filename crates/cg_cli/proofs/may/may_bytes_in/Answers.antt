@@ -28,7 +28,8 @@ pub returns-in_err-said-clause-report : goal.returns-in_err-said-clause-report
 returns-in_err-said-clause-report g c = on_text c.args.tree.now (λ read is.
     let e = err_from_is_err_and c.from_residual-in_err-said.result c.from_residual-in_err-said.ensures.1 in
     unsaid (permission_in c.args.format) read c.args.user.uid c.args.user.gids.now c.args.pid c.args.to.now c.in_ok-user.user
-    c.in_ok-pid.pid c.in_ok-to.to c.in_ok-tree.tree (sym {a = Ok c.in_ok-user.user} c.in_ok-user.ensures) (sym {a = Ok c.in_ok-pid.pid} c.in_ok-pid.ensures)
+    c.in_ok-pid.pid c.in_ok-to.to c.in_ok-tree.tree (sym {a = Ok c.in_ok-user.user} c.in_ok-user.ensures)
+    (sym {a = Ok c.in_ok-pid.pid} c.in_ok-pid.ensures)
     c.in_ok-to.ensures (c.in_ok-tree.ensures.read read is) (g.W.Write.contents c.args.out.now) c.from_residual-in_err-said.result
     (e.1 ∙ ap (λ (it : CliFault). Err it) e.2))
 
