@@ -1,5 +1,6 @@
 pub mod Lasting
 pub mod SecondRow
+pub mod Surveyed
 pub mod Greatest
 pub mod Judged
 pub mod Anchors

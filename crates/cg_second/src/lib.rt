@@ -11,3 +11,4 @@ pub mod reach;
 pub mod room;
 pub mod row;
 pub mod survey;
+pub mod surveyed;

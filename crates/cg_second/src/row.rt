@@ -72,7 +72,7 @@ fn hold_on<H: Hierarchy>(
 }
 
 /// Whether that of one does, by a survey.
-fn holds_on<H: Hierarchy>(
+pub(crate) fn holds_on<H: Hierarchy>(
     alloc: Global,
     survey: &Survey<H>,
     subtree: &Path,
