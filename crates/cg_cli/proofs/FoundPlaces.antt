@@ -1,5 +1,5 @@
 -- What was found of some, by their places: one more, those that are passed over, and those with a list alone.
-use Rattle.std.proofs.Common.{◌≡◌, ℕ, suc, ◌+◌, ◌-◌, ◌<◌, ◌≤◌, Bool, true, false, ◌&&◌, ◌||◌, nat_eq, nat_lt, cond, List, [], ◌∷◌, ◌++◌, length, get_or, drop}
+use Rattle.std.proofs.Common.{◌≡◌, ℕ, suc, ◌+◌, ◌-◌, ◌<◌, ◌≤◌, Bool, true, false, ◌&&◌, ◌||◌, not, nat_eq, nat_lt, cond, List, [], ◌∷◌, ◌++◌, length, get_or, drop}
 use Rattle.std.proofs.Common.{refl, sym, ap, ◌∙◌, subst, is_none, arith}
 use Rattle.std.specs.List.{list_any, filter, prefix_len}
 use Rattle.std.proofs.lemmas.Bool.{eqb-true, eqb-false, ne_eqb, ltb-true, ltb-false}
@@ -18,7 +18,8 @@ use Rattle.cg_model.specs.declared.answer.Answer.TheVariants.{Contained, Escapes
 use Rattle.cg_check.specs.Listed.{is_guarded_of_all}
 use Rattle.cg_check.proofs.Checking.{guarded-answer}
 use Rattle.cg_cli.specs.declared.answers.audited.Found.{Found}
-use Rattle.cg_cli.specs.Audited.{has_list}
+use Rattle.cg_cli.specs.Audited.{has_list, without_list}
+use Rattle.cg_cli.specs.FurtherPairs.{picked}
 use Rattle.cg_cli.specs.FoundPlaces.{found_at, AreApart, AreBefore, found_one, IsAlone, AreAlone, is_unsettled, is_listed_at}
 
 -- ---- places
@@ -293,3 +294,31 @@ module _ (st : State) (users : List Identity) (subtree : Names) where
       → Alone (length users) found
   reached_all left found so_far none =
       let all : length users - length left ≡ length users = omega (arith, none) in subst (λ c. Alone c found) all so_far.alone
+
+-- ---- where nobody has a list
+
+neither : (a b : Bool) → a || b ≡ false → (a ≡ false) × (b ≡ false)
+neither true b is = let never : ⊥ = cc in absurd never
+neither false b is = (refl, is)
+
+none_listed : (found : List Found) (place : ℕ) → list_any (λ (each : Found). has_list each.answer) found ≡ false
+    → has_list (found_at found place) ≡ false
+none_listed [] place none = refl
+none_listed (each ∷ others) place none =
+    let parts = neither (has_list each.answer) (list_any (λ (each : Found). has_list each.answer) others) none in
+    elim (nat_eq each.place place) as (λ here. has_list (cond here each.answer (found_at others place)) ≡ false) [
+      | true ↦ parts.0
+      | false ↦ none_listed others place parts.1
+    ]
+
+all_picked : {A : Type 0} (test : ℕ → Bool) → ((place : ℕ) → test place ≡ true) → (place : ℕ) (xs : List A) → picked test place xs ≡ xs
+all_picked test all place [] = refl
+all_picked test all place (x ∷ xs) =
+    (λ i. cond (all place i) (x ∷ picked test (suc place) xs) (picked test (suc place) xs))
+    ∙ ap (λ l. x ∷ l) (all_picked test all (suc place) xs)
+
+-- then all are asked together
+pub all_without_list : (found : List Found) (users : List Identity) → list_any (λ (each : Found). has_list each.answer) found ≡ false
+    → without_list (found_at found) users ≡ users
+all_without_list found users none =
+    all_picked (λ place. not (has_list (found_at found place))) (λ place. ap not (none_listed found place none)) 0 users

@@ -53,7 +53,7 @@ impl<'a, H: Hierarchy> Surveyed<'a, H> {
     }
 
     /// Whether the second row of a subtree holds against the users together. The tree is surveyed the first time.
-    pub fn second_row(&mut self, alloc: Global, subtree: &Path) -> Result<bool, NoMemory>
+    pub fn holds(&mut self, alloc: Global, subtree: &Path) -> Result<bool, NoMemory>
         requires formed { IsWellFormed self.old.state }
         requires subtree { IsSubtree self.old.state subtree.now }
         ensures holds { IfOk result (λ holds. holds ≡ second_row self.old.state self.old.users subtree.now) }

@@ -25,6 +25,7 @@ use cg_model::guard::Failed;
 use cg_model::hierarchy::Hierarchy;
 use cg_plans::escape::find_escape;
 use cg_second::row::second_row;
+use cg_second::surveyed::Surveyed;
 use std::alloc::Global;
 use std::collections::BTreeSet;
 
@@ -39,9 +40,11 @@ pub struct Found {
 /// guards doesn't hold for all against whom no list is known, together, the guard that fails.
 ///
 /// Users before the next for whom a guard fails are passed over together; a list is planned for those alone whom `check` leaves
-/// unsettled, and the second row is asked once, where there is still one.
+/// unsettled, and the second row is asked once, where there is still one: of `surveyed`, which is of this tree and these users, where
+/// no list is known.
 pub fn audited<H: Hierarchy + Drop>(
     alloc: Global,
+    surveyed: &mut Surveyed<'_, H>,
     tree: &H,
     users: &[User],
     identities: Option<&Identities>,
@@ -49,14 +52,17 @@ pub fn audited<H: Hierarchy + Drop>(
 ) -> Result<Vec<Found>, NoMemory>
     requires formed { IsWellFormed (H.state tree.now) }
     requires covered { AreCovered (option_copied identities) users.now }
+    requires state { surveyed.old.state ≡ H.state tree.now }
+    requires users { surveyed.old.users ≡ users.now }
     requires there { first (subtree_faults (H.state tree.now) subtree.now) ≡ None }
     ensures apart { IfOk result (λ found. AreApart found.items) }
     ensures within { IfOk result (λ found. AreBefore (length users.now) found.items) }
     ensures known { IfOk result (λ found. AreKnown (H.state tree.now) users.now subtree.now (found_at found.items)) }
+    ensures kept { surveyed.new ≡ surveyed.old }
 {
     let found = alone(alloc, tree, users, identities, subtree)?;
     if is_any_unsettled(found.as_slice()) {
-        return together(alloc, tree, users, subtree, found);
+        return together(alloc, surveyed, tree, users, subtree, found);
     }
     Ok(found)
 }
@@ -64,6 +70,7 @@ pub fn audited<H: Hierarchy + Drop>(
 /// What is known of all users, from what is known of each alone.
 fn together<H: Hierarchy + Drop>(
     alloc: Global,
+    surveyed: &mut Surveyed<'_, H>,
     tree: &H,
     users: &[User],
     subtree: &Path,
@@ -72,11 +79,14 @@ fn together<H: Hierarchy + Drop>(
     requires formed { IsWellFormed (H.state tree.now) }
     requires there { first (subtree_faults (H.state tree.now) subtree.now) ≡ None }
     requires alone { AreAlone (H.state tree.now) users.now subtree.now (length users.now) found.items }
+    requires state { surveyed.old.state ≡ H.state tree.now }
+    requires users { surveyed.old.users ≡ users.now }
     ensures apart { IfOk result (λ known. AreApart known.items) }
     ensures within { IfOk result (λ known. AreBefore (length users.now) known.items) }
     ensures known { IfOk result (λ known. AreKnown (H.state tree.now) users.now subtree.now (found_at known.items)) }
+    ensures kept { surveyed.new ≡ surveyed.old }
 {
-    let held = others_are_held(alloc, tree, users, found.as_slice(), subtree)?;
+    let held = others_are_held(alloc, surveyed, tree, users, found.as_slice(), subtree)?;
     if held {
         return Ok(with_list(found));
     }
@@ -189,9 +199,17 @@ fn is_any_unsettled(found: &[Found]) -> bool
         .any(|each| matches!(each.answer, Answer::Unsettled(_)))
 }
 
+/// Whether a list is known of one of the users.
+fn is_any_listed(found: &[Found]) -> bool
+    ensures { result ≡ list_any (λ (each : Found). has_list each.answer) found.now }
+{
+    found.iter().any(|each| has_list(&each.answer))
+}
+
 /// Whether the second row holds for all against whom no list is known, together.
 fn others_are_held<H: Hierarchy + Drop>(
     alloc: Global,
+    surveyed: &mut Surveyed<'_, H>,
     tree: &H,
     users: &[User],
     found: &[Found],
@@ -200,8 +218,14 @@ fn others_are_held<H: Hierarchy + Drop>(
     requires formed { IsWellFormed (H.state tree.now) }
     requires there { first (subtree_faults (H.state tree.now) subtree.now) ≡ None }
     requires apart { AreApart found.now }
-    ensures { IfOk result (λ held. held ≡ second_row (H.state tree.now) (without_list (found_at found.now) users.now) subtree.now) }
+    requires state { surveyed.old.state ≡ H.state tree.now }
+    requires users { surveyed.old.users ≡ users.now }
+    ensures held { IfOk result (λ held. held ≡ second_row (H.state tree.now) (without_list (found_at found.now) users.now) subtree.now) }
+    ensures kept { surveyed.new ≡ surveyed.old }
 {
+    if !is_any_listed(found) {
+        return surveyed.holds(alloc, subtree);
+    }
     let others = others(alloc, users, found)?;
     second_row(alloc, tree, &others, subtree)
 }

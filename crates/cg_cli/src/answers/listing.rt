@@ -14,6 +14,7 @@ use cg_cgroup::path::Path;
 use cg_cgroup::user::User;
 use cg_guards::identities::Identities;
 use cg_model::hierarchy::Hierarchy;
+use cg_second::surveyed::Surveyed;
 use std::alloc::Global;
 use std::marker::Model;
 
@@ -74,9 +75,17 @@ pub fn listed_rows<H: Hierarchy + Drop>(
     ensures { IfOk result (λ rows. AreListed (H.state tree.now) users.now subtrees.now rows.items) }
 {
     let identities = Identities::of(alloc, users)?;
+    let mut surveyed = Surveyed::new(tree, users);
     let mut rows = empty_rows(alloc, users.len())?;
     for (place, subtree) in subtrees.iter().enumerate() {
-        let found = audited(alloc, tree, users, Some(&identities), subtree)?;
+        let found = audited(
+            alloc,
+            &mut surveyed,
+            tree,
+            users,
+            Some(&identities),
+            subtree,
+        )?;
         enter(&mut rows, place, found)?;
     }
     Ok(rows)

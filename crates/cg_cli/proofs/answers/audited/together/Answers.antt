@@ -24,7 +24,7 @@ returns-then-held-clause-known g c =
     let st = g.H.Hierarchy.state c.args.tree.now in
     known-together st c.args.users.now c.args.subtree.now c.args.found.items c.requires.alone c.with_list.result.items c.with_list.ensures
     (ap (λ (l : List Found). second_row st (without_list (found_at l) c.args.users.now) c.args.subtree.now) (sym c.as_slice.ensures.value)
-    ∙ sym c.in_ok-held.ensures ∙ c.if-held.true)
+    ∙ sym c.in_ok-held.ensures.held ∙ c.if-held.true)
 
 pub returns-clause-apart : goal.returns-clause-apart
 returns-clause-apart g c = c.requires.alone.apart
@@ -37,4 +37,4 @@ returns-clause-known g c =
     let st = g.H.Hierarchy.state c.args.tree.now in
     known-apart st c.args.users.now c.args.subtree.now c.args.found.items c.requires.alone
     (ap (λ (l : List Found). second_row st (without_list (found_at l) c.args.users.now) c.args.subtree.now) (sym c.as_slice.ensures.value)
-    ∙ sym c.in_ok-held.ensures ∙ c.if-held.false)
+    ∙ sym c.in_ok-held.ensures.held ∙ c.if-held.false)

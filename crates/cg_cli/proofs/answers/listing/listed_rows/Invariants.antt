@@ -6,5 +6,7 @@ use Rattle.cg_cli.proofs.answers.listing.listed_rows.Given as goal
 abbrev pub invariant-loop-place : goal.invariant-loop-place
 invariant-loop-place g l = record {
   within : l.place ≤ length l.subtrees;
+  state : l.surveyed.state ≡ g.H.Hierarchy.state l.tree;
+  asked : l.surveyed.users ≡ l.users;
   listed : AreListedTo (g.H.Hierarchy.state l.tree) l.users l.subtrees l.place l.rows.items;
 }
