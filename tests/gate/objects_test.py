@@ -26,7 +26,8 @@ class ObjectsTest(unittest.TestCase):
         write(f"{self.played}/kit", f"{TRIED[0]}\n")
         write(f"{self.played}/bin/rattle", PROVER, executable=True)
         self.out = f"{self.top}/crates/zirofen/out"
-        self.environment = {**self.checkout.environment, "GATE_KEPT": f"{self.checkout.room}/kept"}
+        environment = {it: value for it, value in self.checkout.environment.items() if it != "GATE_ANEW"}
+        self.environment = {**environment, "GATE_KEPT": f"{self.checkout.room}/kept"}
 
     def proves(self, *names):
         for name in names:
