@@ -1,4 +1,4 @@
-use Rattle.std.proofs.Common.{◌≤◌, length}
+use Rattle.std.proofs.Common.{◌≡◌, ◌≤◌, length}
 use Rattle.cg_cli.proofs.ListedRows.{AreListedTo}
 use Rattle.cg_cli.proofs.answers.listing.listed_rows.Given as goal
 
