@@ -23,7 +23,7 @@ use Rattle.cg_cli.specs.Audits.{AuditText, users_read, paths_read, audit_answer_
 use Rattle.cg_cli.specs.Containment.{AnswerText, in_call, answer_report, answer_report_by, subtree_report, subtree_report_by, check_report, check_report_by}
 use Rattle.cg_cli.specs.Courses.{Course, Unwatched, Watched, state_of, on_course, closing}
 use Rattle.cg_cli.specs.Everybody.{everybody_found, found_report_in, found_report, everybody_said_in, everybody_said, everybody_report_in, everybody_report}
-use Rattle.cg_cli.specs.Formats.{audit_in, audit_report_in, changes_in, advice_in, first_in}
+use Rattle.cg_cli.specs.Formats.{audit_in, audit_report_in, changes_object, changes_in, advice_in, first_in}
 use Rattle.cg_cli.specs.FurtherPairs.{first_pair_status}
 use Rattle.cg_cli.specs.May.{PermissionText, move_report, move_report_by, tree_read, may_report, may_report_by}
 use Rattle.cg_cli.specs.Once.{same_user}
@@ -35,7 +35,6 @@ use Rattle.cg_cli.specs.declared.everybody.Wanted.{Wanted}
 use Rattle.cg_cli.specs.declared.format.Format.{Format}
 use Rattle.cg_cli.specs.declared.format.Format.TheVariants.{Lines, Json}
 use Rattle.cg_cli.proofs.AuditOnce.{said_once}
-use Rattle.cg_cli.proofs.FormatAdvice.{object_of}
 
 pub same_ending : {A B : Type 0} (read : Result A CliFault) (one other : A → Said B) → ((x : A) → (one x).ending ≡ (other x).ending)
     → (report_on read one).ending ≡ (report_on read other).ending
@@ -114,7 +113,7 @@ told_alike one other (Some text) = refl
 
 module _ (st : State) (pairs : List Pair) where
   by_test : (none : List ℕ) (guarded : Bool)
-      → (told_report none (object_of (cond guarded None (Some (parts_of st pairs))))).ending
+      → (told_report none (changes_object (cond guarded None (Some (parts_of st pairs))))).ending
       ≡ (lines_report (cond guarded None (Some (pairs_lines st pairs)))).ending
   by_test none true = refl
   by_test none false = refl

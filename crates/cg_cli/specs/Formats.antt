@@ -3,7 +3,7 @@ use Rattle.std.specs.Prelude.{ℕ, List, [], ◌∷◌, ◌++◌, Option, Ok}
 use Rattle.std.specs.Option.{option_map}
 use Rattle.cg_cgroup.specs.Paths.{same_path}
 use Rattle.cg_advice.specs.AdviceLines.{advice_lines}
-use Rattle.cg_advice.specs.Found.{advice_parts}
+use Rattle.cg_advice.specs.Found.{Let, Raised, advice_parts}
 use Rattle.cg_format.specs.Readings.{Reading}
 use Rattle.cg_report.specs.AnswerLines.{answer_text}
 use Rattle.cg_report.specs.AuditLines.{pair_line, audit_text}
@@ -59,9 +59,12 @@ abbrev pub listing_in : Format → Listing
 listing_in Lines = in_lines
 listing_in Json = in_json
 
+abbrev pub changes_object : Option (List Let × List Raised) → Option (List ℕ)
+changes_object found = option_map (λ parts. json_line (failing_value parts.0 parts.1)) found
+
 abbrev pub changes_in : Format → State → List Pair → Option (List ℕ)
 changes_in Lines = advice_lines
-changes_in Json = λ st pairs. option_map (λ parts. json_line (failing_value parts.0 parts.1)) (advice_parts st pairs)
+changes_in Json = λ st pairs. changes_object (advice_parts st pairs)
 
 abbrev pub advice_in : Format → Advice
 advice_in format = record { none = (listing_in format).none; some = changes_in format }

@@ -11,10 +11,11 @@ ghost use Rattle.cg_model.specs.Checks.{subtree_faults};
 ghost use Rattle.cg_model.specs.Several.{AreContained};
 ghost use Rattle.cg_format.specs.Readings.{OnText};
 ghost use Rattle.cg_format.specs.TextOf.{IsTextOf};
+ghost use Rattle.cg_advice.specs.Found.{found_parts};
 ghost use Rattle.cg_advice.specs.Ways.{pair_of};
 ghost use Rattle.cg_cli.specs.Advising.{contained_line, told_report, pair_with, all_pairs, advised_by, advice_report_by, AdvisesPairsBy, advise_report, advise_report_by};
 ghost use Rattle.cg_cli.specs.Audits.{users_read, paths_read};
-ghost use Rattle.cg_cli.specs.Formats.{changes_in, advice_in};
+ghost use Rattle.cg_cli.specs.Formats.{changes_object, changes_in, advice_in};
 ghost use Rattle.cg_cli.specs.Reports.{Reports};
 ghost use Rattle.cg_cli.specs.Strangers.{IsFirstStranger};
 
@@ -23,7 +24,7 @@ use crate::audit_all::none_text;
 use crate::format::Format;
 use crate::named_question::{NamedQuestion, ask_named};
 use crate::report::write_said;
-use cg_advice::found;
+use cg_advice::found::{Found, advice as advice_found};
 use cg_advice::pair::Pair;
 use cg_advice::text::advice_lines;
 use cg_cgroup::memory::NoMemory;
@@ -202,7 +203,15 @@ fn advice_object<H: Hierarchy>(
     ensures { IfOk result (λ found. option_map (λ text. text.items) found
         ≡ changes_in Format.Json (H.state tree.now) (map pair_of pairs.now)) }
 {
-    match found::advice(alloc, tree, pairs)? {
+    let found = advice_found(alloc, tree, pairs)?;
+    object_of(alloc, found)
+}
+
+/// The object of what was found, where something was.
+fn object_of(alloc: Global, found: Option<Found<'_>>) -> Result<Option<Vec<u8>>, NoMemory>
+    ensures { IfOk result (λ text. option_map (λ text. text.items) text ≡ changes_object (option_map found_parts found.entry)) }
+{
+    match found {
         None => Ok(None),
         Some(found) => {
             let text = failing_json(alloc, found.stands.as_slice(), found.overs.as_slice())?;

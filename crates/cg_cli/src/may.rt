@@ -93,9 +93,16 @@ fn permission<H: Hierarchy>(
     ensures status { IfOk result (λ said. said.1
         ≡ permission_status (first (bars (H.state tree.now) user.now op.now))) }
 {
-    let bar = refusal(tree, user, op);
-    let text = text_of(alloc, op, bar, format)?;
-    Ok((text, permission_status(bar)))
+    match refusal(tree, user, op) {
+        None => {
+            let text = text_of(alloc, op, None, format)?;
+            Ok((text, 0))
+        }
+        Some(bar) => {
+            let text = text_of(alloc, op, Some(bar), format)?;
+            Ok((text, 1))
+        }
+    }
 }
 
 /// The text of what bars an operation, or of nothing that does.
@@ -111,16 +118,6 @@ fn text_of(
     match format {
         Format::Lines => permission_text(alloc, op, bar),
         Format::Json => permission_json(alloc, op, bar),
-    }
-}
-
-/// The status by what bars an operation.
-fn permission_status(bar: Option<Refusal>) -> u8
-    ensures { result ≡ permission_status bar }
-{
-    match bar {
-        None => 0,
-        Some(_) => 1,
     }
 }
 

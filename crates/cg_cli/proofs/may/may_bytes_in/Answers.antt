@@ -2,7 +2,7 @@ use Rattle.std.proofs.Common.{rules, ◌∙◌, ap, sym}
 use Rattle.std.specs.Prelude.{Ok, Err}
 use Rattle.std.proofs.lemmas.Result.{err_from_is_err_and}
 use Rattle.cg_cli.specs.Formats.{permission_in}
-use Rattle.cg_cli.proofs.MissingLaws.{unsaid, absent_said}
+use Rattle.cg_cli.proofs.MissingLaws.{unsaid, unread, absent_said}
 use Rattle.cg_cli.proofs.ReadingOf.{reading_of, is_reading, on_text}
 use Rattle.cg_faults.specs.declared.fault.CliFault.{CliFault}
 use Rattle.cg_cli.proofs.may.may_bytes_in.Goals as goal
@@ -17,9 +17,11 @@ pub returns-in_err-to-clause-report : goal.returns-in_err-to-clause-report
 returns-in_err-to-clause-report g c = (reading_of c.args.tree.now, is_reading c.args.tree.now, search rules)
 
 pub returns-in_err-tree-clause-report : goal.returns-in_err-tree-clause-report
-returns-in_err-tree-clause-report g c =
-    let found = c.in_err-tree.ensures.read (reading_of c.args.tree.now) (is_reading c.args.tree.now) in
-    (reading_of c.args.tree.now, is_reading c.args.tree.now, search rules)
+returns-in_err-tree-clause-report g c = on_text c.args.tree.now (λ read is.
+    unread (permission_in c.args.format) read c.args.user.uid c.args.user.gids.now c.args.pid c.args.to.now c.in_ok-user.user
+    c.in_ok-pid.pid c.in_ok-to.to (sym {a = Ok c.in_ok-user.user} c.in_ok-user.ensures)
+    (sym {a = Ok c.in_ok-pid.pid} c.in_ok-pid.ensures) c.in_ok-to.ensures c.in_err-tree.field-0.0 (c.in_err-tree.ensures.read read is)
+    (g.W.Write.contents c.args.out.now) c.from_residual-in_err-tree.result c.from_residual-in_err-tree.ensures.1)
 
 pub returns-in_err-found-clause-report : goal.returns-in_err-found-clause-report
 returns-in_err-found-clause-report g c = on_text c.args.tree.now (λ read is. let found = c.in_ok-tree.ensures.read read is in search rules)
