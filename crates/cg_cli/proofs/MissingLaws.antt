@@ -39,7 +39,8 @@ pub unread : (text : PermissionText) (read : Reading) (uid : ℕ) (gids : List �
 unread text read uid gids pid to user number path is_user is_pid is_path fault is known result handed =
     handed_on (Reports (may_report_by text read uid gids pid to) known known) (lifted fault) result handed
     (rw (is_user, is_pid, is_path)
-    (met_reports (tree_read read) (λ st. move_report_by text st user number path) (λ st. refl) (lifted fault) (tree_met read fault is) known))
+    (met_reports (tree_read read) (λ st. move_report_by text st user number path) (λ st. refl) (lifted fault) (tree_met read fault is)
+    known))
 
 pub absent_said : (text to : List ℕ) (path : Names) (st : State) → path_read to ≡ Ok path
     → ((read : Reading) → IsReading text read → read ≡ Ok st)

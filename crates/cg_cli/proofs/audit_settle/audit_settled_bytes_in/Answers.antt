@@ -12,8 +12,8 @@ returns-clause-report g c =
     let asked = c.ask_named.ensures.report in (
       asked.0,
       asked.1,
-      first_said (first_in c.args.format) (λ pairs. ap takes_memory (first_ends c.args.format pairs)) asked.0 (map (λ user. (user.uid, user.gids.now)) c.args.users.now)
-          (map (λ subtree. subtree.now) c.args.subtrees.now)
+      first_said (first_in c.args.format) (λ pairs. ap takes_memory (first_ends c.args.format pairs)) asked.0
+          (map (λ user. (user.uid, user.gids.now)) c.args.users.now) (map (λ subtree. subtree.now) c.args.subtrees.now)
           (g.W.Write.contents c.args.out.now) (g.W.Write.contents c.ask_named.new.out) c.ask_named.result asked.2,
     )
 
